@@ -1,0 +1,5 @@
+pub mod Ring
+pub mod Words
+pub mod Fips
+pub mod Bytes
+pub mod Points

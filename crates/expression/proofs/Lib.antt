@@ -1,0 +1,4 @@
+pub mod Shapes
+pub mod Splits
+pub mod WordsBack
+pub mod Running
