@@ -1,4 +1,5 @@
-// Reads a file of a comparison from standard input and prints a line for each of its records.
+// Reads a file of a comparison from standard input and prints a line for each of its records: the counts or the refusal of a table.
+use machine::table::read_table;
 use records::file::File;
 use records::file::FileFault;
 use records::file::Part;
@@ -28,6 +29,23 @@ fn input(rt: &LibcRuntime) -> io::Result<Vec<u8>> {
     Ok(bytes)
 }
 
+// The counts of a table, or its refusal.
+fn print_table(rt: &LibcRuntime, number: u32, words: &[u32]) -> io::Result<()> {
+    match read_table(words) {
+        Ok(head) => {
+            let states = head.states;
+            let registers = head.registers;
+            let inputs = head.inputs;
+            println!(rt, "table {number}: {states} states, {registers} registers, {inputs} inputs")
+        }
+        Err(fault) => rt.println(Line::Refused {
+            number: fault.number(),
+            machine: number,
+            place: u32::try_from(fault.place()).unwrap_or(u32::MAX),
+        }),
+    }
+}
+
 // A line for each record.
 fn print_records(rt: &LibcRuntime, file: &File) -> io::Result<()> {
     let shared = file.shared;
@@ -35,10 +53,8 @@ fn print_records(rt: &LibcRuntime, file: &File) -> io::Result<()> {
         Values::Words => println!(rt, "start: words, {shared} shared")?,
         Values::Bytes => println!(rt, "start: bytes, {shared} shared")?,
     }
-    let first = file.first.len();
-    let second = file.second.len();
-    println!(rt, "first table: {first} words")?;
-    println!(rt, "second table: {second} words")?;
+    print_table(rt, 1, &file.first)?;
+    print_table(rt, 2, &file.second)?;
     for part in &file.parts {
         match part {
             Part::Pair(words) => {

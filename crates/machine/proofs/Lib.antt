@@ -1,0 +1,14 @@
+pub mod Accepts
+pub mod Blocks
+pub mod Chains
+pub mod Cuts
+pub mod Encodes
+pub mod Exits
+pub mod Flags
+pub mod Itself
+pub mod Lists
+pub mod Machines
+pub mod Parts
+pub mod Runs
+pub mod Steps
+pub mod Storing
