@@ -36,7 +36,10 @@ fn print_table(rt: &LibcRuntime, number: u32, words: &[u32]) -> io::Result<()> {
             let states = head.states;
             let registers = head.registers;
             let inputs = head.inputs;
-            println!(rt, "table {number}: {states} states, {registers} registers, {inputs} inputs")
+            println!(
+                rt,
+                "table {number}: {states} states, {registers} registers, {inputs} inputs"
+            )
         }
         Err(fault) => rt.println(Line::Refused {
             number: fault.number(),

@@ -12,7 +12,10 @@ fn print_file(rt: &LibcRuntime, name: &str, bytes: &[u8]) -> io::Result<()> {
             let first = file.first.len();
             let second = file.second.len();
             let parts = file.parts.len();
-            println!(rt, "{name}: tables of {first} and {second} words, {parts} parts")
+            println!(
+                rt,
+                "{name}: tables of {first} and {second} words, {parts} parts"
+            )
         }
         Err(FileFault::BadFile) => {
             let line = Line::BadFile;
@@ -45,7 +48,19 @@ fn print_long(rt: &LibcRuntime, name: &str, claim: u32) -> io::Result<()> {
 fn good(rt: &LibcRuntime) -> io::Result<()> {
     print_words(rt, "empty tables", &[0xf0000000, 0xf1000000, 0xf2000000])?;
     print_words(rt, "over bytes", &[0xf000ff01, 0xf1000001, 7, 0xf2000000])?;
-    print_words(rt, "parts", &[0xf0000000, 0xf1000000, 0xf2000000, 0xf4000001, 9, 0xf3000000, 0xf4000000])?;
+    print_words(
+        rt,
+        "parts",
+        &[
+            0xf0000000,
+            0xf1000000,
+            0xf2000000,
+            0xf4000001,
+            9,
+            0xf3000000,
+            0xf4000000,
+        ],
+    )?;
     print_long(rt, "16384 words", 16380)
 }
 
@@ -54,17 +69,57 @@ fn bad(rt: &LibcRuntime) -> io::Result<()> {
     print_words(rt, "start alone", &[0xf0000000])?;
     print_words(rt, "one table", &[0xf0000000, 0xf1000000])?;
     print_words(rt, "no start", &[0xf1000000, 0xf2000000])?;
-    print_words(rt, "tables exchanged", &[0xf0000000, 0xf2000000, 0xf1000000])?;
-    print_words(rt, "second start", &[0xf0000000, 0xf1000000, 0xf2000000, 0xf0000000])?;
-    print_words(rt, "third table", &[0xf0000000, 0xf1000000, 0xf2000000, 0xf1000000])?;
-    print_words(rt, "unknown type", &[0xf0000000, 0xf1000000, 0xf2000000, 0xf5000000])?;
-    print_words(rt, "unknown kind", &[0xf0000000, 0xf1000000, 0xf2000000, 0xe3000000])?;
+    print_words(
+        rt,
+        "tables exchanged",
+        &[0xf0000000, 0xf2000000, 0xf1000000],
+    )?;
+    print_words(
+        rt,
+        "second start",
+        &[0xf0000000, 0xf1000000, 0xf2000000, 0xf0000000],
+    )?;
+    print_words(
+        rt,
+        "third table",
+        &[0xf0000000, 0xf1000000, 0xf2000000, 0xf1000000],
+    )?;
+    print_words(
+        rt,
+        "unknown type",
+        &[0xf0000000, 0xf1000000, 0xf2000000, 0xf5000000],
+    )?;
+    print_words(
+        rt,
+        "unknown kind",
+        &[0xf0000000, 0xf1000000, 0xf2000000, 0xe3000000],
+    )?;
     print_words(rt, "unknown domain", &[0xf0000002, 0xf1000000, 0xf2000000])?;
-    print_words(rt, "unused bit in the start", &[0xf0010000, 0xf1000000, 0xf2000000])?;
-    print_words(rt, "unused bit in a record", &[0xf0000000, 0xf1000000, 0xf2000000, 0xf3010000])?;
-    print_words(rt, "table past the end", &[0xf0000000, 0xf1000003, 0xf2000000, 1])?;
-    print_words(rt, "claim past the end", &[0xf0000000, 0xf1000000, 0xf2000000, 0xf4000001])?;
-    print_file(rt, "length of 13 bytes", &[0xf0, 0, 0, 0, 0xf1, 0, 0, 0, 0xf2, 0, 0, 0, 0])?;
+    print_words(
+        rt,
+        "unused bit in the start",
+        &[0xf0010000, 0xf1000000, 0xf2000000],
+    )?;
+    print_words(
+        rt,
+        "unused bit in a record",
+        &[0xf0000000, 0xf1000000, 0xf2000000, 0xf3010000],
+    )?;
+    print_words(
+        rt,
+        "table past the end",
+        &[0xf0000000, 0xf1000003, 0xf2000000, 1],
+    )?;
+    print_words(
+        rt,
+        "claim past the end",
+        &[0xf0000000, 0xf1000000, 0xf2000000, 0xf4000001],
+    )?;
+    print_file(
+        rt,
+        "length of 13 bytes",
+        &[0xf0, 0, 0, 0, 0xf1, 0, 0, 0, 0xf2, 0, 0, 0, 0],
+    )?;
     print_long(rt, "16385 words", 16381)
 }
 

@@ -21,7 +21,10 @@ fn print_words(rt: &LibcRuntime, a: u32, b: u32) -> io::Result<()> {
     let product = x.mul(y).bits;
     let opposite = x.neg().bits;
     let below = x.below(y);
-    println!(rt, "words {a:08x} {b:08x}: sum {sum:08x}, product {product:08x}, opposite {opposite:08x}, below {below}")
+    println!(
+        rt,
+        "words {a:08x} {b:08x}: sum {sum:08x}, product {product:08x}, opposite {opposite:08x}, below {below}"
+    )
 }
 
 fn print_bytes(rt: &LibcRuntime, a: u8, b: u8) -> io::Result<()> {
@@ -30,7 +33,10 @@ fn print_bytes(rt: &LibcRuntime, a: u8, b: u8) -> io::Result<()> {
     let sum = x.add(y).value;
     let opposite = x.neg().value;
     let below = x.below(y);
-    println!(rt, "bytes {a:02x} {b:02x}: sum {sum:02x}, opposite {opposite:02x}, below {below}")
+    println!(
+        rt,
+        "bytes {a:02x} {b:02x}: sum {sum:02x}, opposite {opposite:02x}, below {below}"
+    )
 }
 
 fn print_minus_one(rt: &LibcRuntime) -> io::Result<()> {
