@@ -99,13 +99,3 @@ module _ {V : Type 0} {o : Ops V} (laws : Laws o) where
 
   pub neg-add-left : (x y : V) → o .add (o .neg x) (o .add x y) ≡ y
   neg-add-left x y = sym (laws .add-assoc (o .neg x) x y) ∙ ap (λ w. o .add w y) (neg-add x) ∙ zero-add y
-
--- both sides of an equation between sums and products, as sorted sums of sorted products
-pub ruleset ring·simp = (r-mul-add, add-mul, neg-sum, neg-mul, mul-neg, neg-neg, neg-zero, mul-zero, zero-mul, r-mul-one, one-mul, r-add-zero, zero-add, r-add-neg, neg-add, add-neg-left, neg-add-left, r-mul-assoc, r-mul-comm, mul-left-comm, r-add-assoc, r-add-comm, add-left-comm)
-
--- (x + 1) (x - 1) is x x - 1, and (x + y) (x - y) + y y is x x
-example : {V : Type 0} {o : Ops V} (laws : Laws o) (x : V) → o .mul (o .add x (o .one)) (o .add x (o .neg (o .one))) ≡ o .add (o .mul x x) (o .neg (o .one))
-example laws x = simp (ring·simp, laws)
-
-example2 : {V : Type 0} {o : Ops V} (laws : Laws o) (x y : V) → o .add (o .mul (o .add x y) (o .add x (o .neg y))) (o .mul y y) ≡ o .mul x x
-example2 laws x y = simp ring·simp

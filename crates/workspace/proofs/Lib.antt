@@ -1,0 +1,5 @@
+pub mod Laws
+pub mod Steps
+pub mod Stack
+pub mod Evaluating
+pub mod Comparing

@@ -1,0 +1,5 @@
+use native.Mathlib.Omega.{arith}
+use Rattle.workspace.proofs.slots.Slots.sum.Needs as need
+
+pub sum-requires : need.sum-requires
+sum-requires g c κs = record { ready = record { count = c .args .self .now .count; few = c .args .self .now .few; room = c .args .self .now .room }; slots = (omega arith, (omega arith, omega arith)) }

@@ -1,0 +1,5 @@
+pub mod Layout
+pub mod Slots
+pub mod Views
+pub mod Evaluation
+pub mod Comparison
