@@ -1,0 +1,13 @@
+pub mod Chains
+pub mod SettledLaw
+pub mod Looking
+pub mod Following
+pub mod Theories
+pub mod WorkedOut
+pub mod Waiting
+pub mod Held
+pub mod Tested
+pub mod Learned
+pub mod Stepped
+pub mod Followed
+pub mod Ordered

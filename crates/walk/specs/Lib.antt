@@ -1,0 +1,5 @@
+pub mod Settled
+pub mod Walk
+pub mod Laws
+pub mod Seen
+pub mod Taking
