@@ -83,7 +83,7 @@ module _ (inputs : ℕ) (symbols : List ℕ) where
       let w = split (word-at 7 ws 1) _ c (h .2) in
       let p = split (read-path 12 1 (w .0)) _ c (w .2) in
       let first = path-read 12 1 (w .0) (p .0) (p .1) in
-      cond-both (h .0 .dead) (read-infeasible inputs symbols ws (h .0) (p .0)) (read-live inputs symbols ws (h .0) (p .0)) (λ z. z ≡ good c → Sound-claim (length symbols) (c .claim)) (λ k. infeasible-read ws (h .0) (p .0) c first) (λ k. live-read ws (h .0) (p .0) c first) (p .2)
+      cond-both (h .0 .infeasible) (read-infeasible inputs symbols ws (h .0) (p .0)) (read-live inputs symbols ws (h .0) (p .0)) (λ z. z ≡ good c → Sound-claim (length symbols) (c .claim)) (λ k. infeasible-read ws (h .0) (p .0) c first) (λ k. live-read ws (h .0) (p .0) c first) (p .2)
 
 pub symbols-count : (pairs : List Pair) → length (symbols-of pairs) ≡ length pairs
 symbols-count [] = refl

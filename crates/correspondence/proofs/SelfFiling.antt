@@ -218,7 +218,7 @@ module _ {D : Type 0} (o : Ops D) (theory : Theory o) (m : Machine) (sound : Sou
     reads-own : read-claim (m .inputs) (symbols-of ps) ws ≡ good proposed
     unfolding read-claim
     reads-own =
-        let h : Claim-head = record { start = s; end = t .target; dead = false } in
+        let h : Claim-head = record { start = s; end = t .target; infeasible = false } in
         let few = sound .most in
         let count = substitutes-count R (m .inputs) (sound .few-registers) (sound .few-inputs) (t .actions) 0 R in
         let start-symbols : getD (symbols-of ps) s 0 ≡ R = symbols-at ps s _ (omega (arith, paired .count)) ∙ ap (λ (q : Pair). q .symbols) start-is in

@@ -119,7 +119,7 @@ above-byte : (a b n : ℕ) → a < 256 → n ≡ a + b * 256 → n / 256 ≡ b
 above-byte a b n h e = omega arith
 
 -- The word of a live claim.
-pub reads-claim-head : (start end : ℕ) → start < 256 → end < 256 → read-claim-head (0xB0000000 + start + end * 256) ≡ good (record { start = start; end = end; dead = false })
+pub reads-claim-head : (start end : ℕ) → start < 256 → end < 256 → read-claim-head (0xB0000000 + start + end * 256) ≡ good (record { start = start; end = end; infeasible = false })
 unfolding read-claim-head
 reads-claim-head start end a b =
     let w = 0xB0000000 + start + end * 256 in
@@ -131,7 +131,7 @@ reads-claim-head start end a b =
     let e : n / 256 % 256 ≡ end = ap (λ x. x % 256) (above-byte start end n a is) ∙ low-byte end 0 end b (omega arith) in
     let alive-so : eqb (n / 65536) 1 ≡ false = ap (λ x. eqb x 1) high in
     go-check _ 7 0 0 _ _ (and-from _ _ (eq-eqb (kind w) 11 k) (and-from _ _ (ap (λ x. leb x 1) high) (ap (λ x. not x || eqb (n / 256 % 256) 0) alive-so)))
-    (λ i. good (record { start = s i; end = e i; dead = alive-so i }))
+    (λ i. good (record { start = s i; end = e i; infeasible = alive-so i }))
 
 -- Paths of one step.
 pub reads-first : (turn : Bool) → read-path 12 1 (step-word 0xC0000000 turn) ≡ good (turn ∷ [])

@@ -144,4 +144,4 @@ live-read inputs symbols ws start end path₁ path₂ c e is =
     ⊎-elim
     (λ g. infeasible-good inputs symbols ws (b .0) (f .0) start end path₁ path₂ c is (g .1))
     (λ g. live-good inputs symbols ws (b .0) (f .0) start end path₁ path₂ c is (g .1))
-    (cond-good (b .0 .dead) (read-infeasible inputs symbols ws (b .0) (f .0)) (read-live inputs symbols ws (b .0) (f .0)) c (f .2))
+    (cond-good (b .0 .infeasible) (read-infeasible inputs symbols ws (b .0) (f .0)) (read-live inputs symbols ws (b .0) (f .0)) c (f .2))

@@ -22,7 +22,7 @@ claim-of (variants.Live start end first second) = live start end (turns-of first
 claim-of (variants.Infeasible start first) = infeasible start (turns-of first)
 
 abbrev pub head-seen : ClaimHead → Claim-head
-head-seen h = record { start = h .start; end = h .end; dead = h .dead }
+head-seen h = record { start = h .start; end = h .end; infeasible = h .infeasible }
 
 -- What a result says, seen as the definitions have it.
 abbrev pub claim-head-told : Result ClaimHead ClaimFault → Answer Claim-head

@@ -150,15 +150,15 @@ read-pair one two ws =
 pub record Claim-head : Type 0 where
   pub start : ℕ
   pub end : ℕ
-  pub dead : Bool
+  pub infeasible : Bool
 
 -- The first word of a claim. The end pair of an infeasible one is 0.
 unfoldable pub read-claim-head : ℕ → Answer Claim-head
 read-claim-head w =
     let n = number w in
-    let dead = eqb (n / 65536) 1 in
-    check (eqb (kind w) 11 && (leb (n / 65536) 1 && (not dead || eqb (n / 256 % 256) 0))) 7 0 0 then λ _.
-    good (record { start = n % 256; end = n / 256 % 256; dead = dead })
+    let infeasible = eqb (n / 65536) 1 in
+    check (eqb (kind w) 11 && (leb (n / 65536) 1 && (not infeasible || eqb (n / 256 % 256) 0))) 7 0 0 then λ _.
+    good (record { start = n % 256; end = n / 256 % 256; infeasible = infeasible })
 
 -- A path: its length, then the turns, 1 for no.
 unfoldable pub read-path : (which place : ℕ) → ℕ → Answer (List Bool)
@@ -202,4 +202,4 @@ module _ (inputs : ℕ) (symbols : List ℕ) where
       read-claim-head v then λ h.
       word-at 7 ws 1 then λ w.
       read-path 12 1 w then λ path₁.
-      cond (h .dead) (read-infeasible ws h path₁) (read-live ws h path₁)
+      cond (h .infeasible) (read-infeasible ws h path₁) (read-live ws h path₁)

@@ -35,12 +35,12 @@ pub enum Claim {
     },
 }
 
-// The first word of a claim. The end pair of a dead one is 0.
+// The first word of a claim. The end pair of an infeasible one is 0.
 #[derive(Clone, Copy)]
 struct ClaimHead {
     start: u32,
     end: u32,
-    dead: bool,
+    infeasible: bool,
 }
 
 const CLAIM: u32 = 11;
@@ -51,7 +51,7 @@ const SECOND_PATH: u32 = 13;
 
 const LONGEST_PATH: u32 = 16;
 
-// Whether a word begins a claim: no flag but that of a dead claim, which has no end pair.
+// Whether a word begins a claim: no flag but that of an infeasible claim, which has no end pair.
 fn is_head(word: u32) -> bool
     ensures { λ r. ⌜ r ≡ (eqb (kind word) 11 && (leb (number word / 65536) 1 && (not (eqb (number word / 65536) 1) || eqb (number word / 256 % 256) 0))) ⌝ }
 {
@@ -71,7 +71,7 @@ fn head_of(word: u32) -> Result<ClaimHead, ClaimFault>
     Ok(ClaimHead {
         start: number % 256,
         end: number / 256 % 256,
-        dead: number / 65536 == 1,
+        infeasible: number / 65536 == 1,
     })
 }
 
@@ -167,7 +167,7 @@ pub fn read_claim(inputs: u32, symbols: &[u32], words: &[u32]) -> Result<Claim, 
     }
     let head = head_of(words[0])?;
     let first = path_at(words, FIRST_PATH, 1)?;
-    if head.dead {
+    if head.infeasible {
         return read_infeasible(symbols, words, head, first);
     }
     read_live(inputs, symbols, words, head, first)

@@ -15,7 +15,10 @@ use Rattle.std.proofs.shelf.Tests.{eq-eqb, ne-eqb, eqb-true, eqb-false, ltb-tru
 use Rattle.machine.specs.Answer.{Answer, good, refused, _then_, check}
 use Rattle.machine.specs.Machine.{Machine, Row, row-at, chosen}
 use Rattle.walk.specs.Walk.{allows, is-last, in-order}
-use Rattle.walk.specs.Taking.{There, Goes-there, table-machine, allowed-target}
+use Rattle.machine.specs.declared.head.Head.{Head}
+use Rattle.machine.specs.Reading.{table, machine, machine-of}
+use Rattle.machine.proofs.Encodes.{sound-tables}
+use Rattle.walk.specs.Taking.{Is-table, There, Goes-there, When, machine-or, table-machine, allowed-target}
 
 module _ (m : Machine) where
   order-more : (which i s : ℕ) (turn : Bool) (path : List Bool) → in-order which m i s (turn ∷ path) ≡ (check (allows (row-at m s) turn && (is-last path || not (eqb (chosen (row-at m s) turn .target) 0))) 12 which i then λ u. in-order which m (suc i) (chosen (row-at m s) turn .target) path)
@@ -108,3 +111,16 @@ module _ (words : List ℕ) (path : List Bool) (start i state : ℕ) (inv : Orde
                 ∙ inv .orders which;
             there = there;
           }
+
+-- an accepted table, and a state below its count
+pub state-there : (words : List ℕ) (h : Head) (s : ℕ) → good h ≡ table words → s < h .states → Is-table words × There words s
+state-there words h s e lt =
+    let m : machine words ≡ good (machine-of words h) = ap (λ a. a then λ g. good (machine-of words g)) (sym e) in
+    let is : Is-table words = m ∙ ap (λ a. good (machine-or a)) (sym m) in
+    let n : table-machine words ≡ machine-of words h = ap machine-or m in
+    let counted = sound-tables .heads words h (table-machine words) (sym e) is in
+    (is, (let c = counted .states in omega arith))
+
+pub or-not : (b : Bool) (words : List ℕ) (h : Head) (s : ℕ) → good h ≡ table words → ltb s (h .states) ≡ b → When b (Is-table words × There words s)
+or-not true words h s e l = state-there words h s e (ltb-true s (h .states) l)
+or-not false words h s e l = tt

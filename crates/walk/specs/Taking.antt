@@ -1,6 +1,6 @@
 -- A transition taken in the slots.
 use mathlib.Core.Path.{_≡_}
-use mathlib.Core.Bool.{Bool, true, cond}
+use mathlib.Core.Bool.{Bool, true, false, cond}
 use mathlib.Core.Logic.{_⊎_}
 use mathlib.Core.List.{List, [], _∷_}
 use Prim.Native.Nat.{ℕ, _+_, _<_, _≤_}
@@ -157,3 +157,8 @@ told-order which (Err i) = refused 12 which i
 
 abbrev pub In-order : {U : Type 0} → Machine → (state : ℕ) → List Bool → Result U ℕ → Type 0
 In-order m state path r = (which : ℕ) → told-order which r ≡ in-order which m 0 state path
+
+-- What a yes says.
+abbrev pub When : Bool → Type 0 → Type 0
+When true P = P
+When false P = Unit {0}

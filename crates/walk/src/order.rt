@@ -6,10 +6,11 @@ ghost use Rattle.std.specs.Options.{Cases};
 ghost use Rattle.machine.specs.Machine.{row-at};
 ghost use Rattle.machine.specs.Reading.{row-of};
 ghost use Rattle.machine.specs.Views.{ahead};
-ghost use Rattle.walk.specs.Taking.{Is-table, There, table-machine, allowed-target, In-order};
+ghost use Rattle.walk.specs.Taking.{Is-table, There, table-machine, allowed-target, In-order, When};
 use crate::steps::row_there;
 use crate::testing::choose;
 use machine::row::Row;
+use machine::table::read_table;
 use machine::view::Part;
 
 // The state that a turn leads to from a row, if the row has that turn.
@@ -36,6 +37,16 @@ fn step_target(words: &[u32], state: u32, turn: bool) -> Option<u32>
     ensures there { λ r. ⌜ Cases r (Unit {0}) (λ s. There (now (words .entry)) s) ⌝ }
 {
     target_of(row_there(words, state), turn)
+}
+
+// Whether words are a table with this state.
+pub fn is_there(words: &[u32], state: u32) -> bool
+    ensures { λ r. ⌜ When r (Is-table (now (words .entry)) × There (now (words .entry)) state) ⌝ }
+{
+    match read_table(words) {
+        Ok(head) => state < head.states,
+        Err(_) => false,
+    }
 }
 
 // Whether a step into state 0 has another behind it.

@@ -2,22 +2,37 @@
 ghost use mathlib.Core.Path.{_≡_};
 ghost use mathlib.Core.List.{[]};
 ghost use Prim.Native.Nat.{_+_, _<_, _≤_};
-ghost use lib.ListN.{getD, set};
+ghost use lib.ListN.{length, getD, set, replicate};
 ghost use Rattle.forms.specs.Forms as Forms;
-ghost use Rattle.workspace.specs.Layout.{slot-count};
+ghost use Rattle.workspace.specs.Layout.{slot-count, terms-needed};
 ghost use Rattle.workspace.specs.Slots.{told, give};
 ghost use Rattle.workspace.specs.Views.{forms, named};
 ghost use Rattle.workspace.specs.Evaluation.{group-form, Below};
 use crate::leaves::Group;
+use crate::lengths::Lengths;
 use crate::limits::OverLimits;
 use crate::operations;
 use crate::slots::Slots;
 use domain::Domain;
+use forms::Term;
 
 // Symbols from here on, and inputs from here on, have no code.
 const SYMBOLS: u32 = 32;
 
 const INPUTS: u32 = 8;
+
+impl<'a, D> Slots<'a, D> {
+    // The slots of a row, with no form in any.
+    pub fn empty(row: &'a mut [Term<D>]) -> Slots<'a, D>
+        requires { ⌜ terms-needed ≤ length (now row) ⌝ }
+        ensures { λ r. ⌜ forms r ≡ replicate slot-count [] ⌝ }
+    {
+        Slots {
+            row,
+            lens: Lengths::empty(),
+        }
+    }
+}
 
 impl<D: Domain> Slots<'_, D> {
     // Slot `to` gets the sum of the forms of two slots.
