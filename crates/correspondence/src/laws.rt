@@ -5,5 +5,5 @@ use domain::Domain;
 
 // What equivalent means, that clean proposals earn it, and that every table can earn it beside itself; for every domain.
 pub fn guarantee<D: Domain>()
-    ensures { Guarantee ops }
+    ensures { Guarantee D.ops }
 {}

@@ -57,5 +57,5 @@ pub fn splits_once()
 
 // Every expression has a value, whatever its leaves hold.
 pub fn has_value<D: Domain>()
-    ensures { HasValue ops }
+    ensures { HasValue D.ops }
 {}

@@ -9,7 +9,7 @@ use domain::Domain;
 
 impl<D: Domain> Term<D> {
     pub fn same(self, other: Term<D>) -> bool
-        ensures is { result ≡ same_term ops self other }
+        ensures is { result ≡ same_term D.ops self other }
         ensures decides { Decides result (self ≡ other) }
     {
         if self.monomial.0 != other.monomial.0 {
@@ -21,7 +21,7 @@ impl<D: Domain> Term<D> {
 
 // Whether two forms are one.
 pub fn same<D: Domain>(p: &[Term<D>], q: &[Term<D>]) -> bool
-    ensures is { result ≡ same_form ops p.now q.now }
+    ensures is { result ≡ same_form D.ops p.now q.now }
     ensures decides { Decides result (p.now ≡ q.now) }
 {
     if p.len() != q.len() {
@@ -39,7 +39,7 @@ pub fn same<D: Domain>(p: &[Term<D>], q: &[Term<D>]) -> bool
 pub fn same_parts<D: Domain>(row: &[Term<D>], s: Span, t: Span) -> bool
     requires s { Within s (length row.now) }
     requires t { Within t (length row.now) }
-    ensures { result ≡ same_form ops (part s row.now) (part t row.now) }
+    ensures { result ≡ same_form D.ops (part s row.now) (part t row.now) }
 {
     let i = s.from;
     let j = s.to;
@@ -50,7 +50,7 @@ pub fn same_parts<D: Domain>(row: &[Term<D>], s: Span, t: Span) -> bool
 
 // The constant that a form is, if it is one.
 pub fn fixed<D: Domain>(p: &[Term<D>]) -> Option<D>
-    ensures { result ≡ fixed ops p.now }
+    ensures { result ≡ fixed D.ops p.now }
 {
     if p.len() == 0 {
         return Some(D::zero());

@@ -13,7 +13,7 @@ fn next<D: Domain>(row: &[Term<D>], x: &mut Span, y: &mut Span) -> Option<Term<D
     requires x { Within x.old (length row.now) }
     requires y { Within y.old (length row.now) }
     requires some { 0 < (x.old.to - x.old.from) + (y.old.to - y.old.from) }
-    ensures sum { added ops (part x.old row.now) (part y.old row.now) ≡ option_to_list result ++ added ops (part x.new row.now) (part y.new row.now) }
+    ensures sum { added D.ops (part x.old row.now) (part y.old row.now) ≡ option_to_list result ++ added D.ops (part x.new row.now) (part y.new row.now) }
     ensures x { Within x.new x.old.to }
     ensures y { Within y.new y.old.to }
     ensures less { (x.new.to - x.new.from) + (y.new.to - y.new.from) < (x.old.to - x.old.from) + (y.old.to - y.old.from) }
@@ -55,7 +55,7 @@ pub fn merge<D: Domain>(row: &mut [Term<D>], a: Span, b: Span, at: usize) -> Spa
     requires a { Within a at }
     requires b { Within b at }
     requires room { at + ((a.to - a.from) + (b.to - b.from)) ≤ length row.old }
-    ensures { Put at row.old (added ops (part a row.old) (part b row.old)) row.new result }
+    ensures { Put at row.old (added D.ops (part a row.old) (part b row.old)) row.new result }
 {
     let mut x = a;
     let mut y = b;

@@ -12,7 +12,7 @@ use domain::Domain;
 impl<D: Domain> Term<D> {
     // The product of two terms.
     pub fn times(self, other: Term<D>) -> Term<D>
-        ensures { result ≡ term_product ops self other }
+        ensures { result ≡ term_product D.ops self other }
     {
         Term {
             coefficient: self.coefficient.mul(other.coefficient),
@@ -25,7 +25,7 @@ impl<D: Domain> Term<D> {
 pub fn scale<D: Domain>(row: &mut [Term<D>], x: Term<D>, b: Span, at: usize) -> Span
     requires b { Within b at }
     requires room { at + (b.to - b.from) ≤ length row.old }
-    ensures { Put at row.old (scaled ops x (part b row.old)) row.new result }
+    ensures { Put at row.old (scaled D.ops x (part b row.old)) row.new result }
 {
     let mut y = b;
     let mut end = at;
@@ -46,7 +46,7 @@ pub fn multiply<D: Domain>(row: &mut [Term<D>], a: Span, b: Span, at: usize) -> 
     requires b { Within b at }
     requires few { (a.to - a.from ≤ 16) × (b.to - b.from ≤ 16) }
     requires room { at + 544 ≤ length row.old }
-    ensures { Put at row.old (multiplied ops (part a row.old) (part b row.old)) row.new result }
+    ensures { Put at row.old (multiplied D.ops (part a row.old) (part b row.old)) row.new result }
 {
     let mut i = a.to;
     let mut acc = Span { from: at, to: at };

@@ -31,7 +31,7 @@ pub fn copy<D: Copy>(row: &mut [Term<D>], s: Span, at: usize) -> Span
 pub fn negate<D: Domain>(row: &mut [Term<D>], b: Span, at: usize) -> Span
     requires b { Within b at }
     requires room { at + (b.to - b.from) ≤ length row.old }
-    ensures { Put at row.old (negation ops (part b row.old)) row.new result }
+    ensures { Put at row.old (negation D.ops (part b row.old)) row.new result }
 {
     let mut y = b;
     let mut end = at;

@@ -12,15 +12,15 @@ pub fn monomial_facts()
 
 // The operations within the limits give normal forms with the right value.
 pub fn lawful<D: Domain>()
-    ensures { Lawful ops }
+    ensures { Lawful D.ops }
 {}
 
 // Two expressions within the limits have one normal form exactly when they are the same polynomial.
 pub fn one_form<D: Domain>()
-    ensures { OneForm ops }
+    ensures { OneForm D.ops }
 {}
 
 // The value of the form of an expression is the value of the expression.
 pub fn value_kept<D: Domain>()
-    ensures { Value ops }
+    ensures { Value D.ops }
 {}

@@ -31,7 +31,7 @@ fn check_other<D: Domain>(
     requires table { IsTable words.now }
     requires state { There words.now state }
     requires side { LegalSide side }
-    ensures { told_rule result ≡ other_settled ops (row_at (table_machine words.now) state) turn (track_seen side state known.now outputs.now (forms slots.old)) }
+    ensures { told_rule result ≡ other_settled D.ops (row_at (table_machine words.now) state) turn (track_seen side state known.now outputs.now (forms slots.old)) }
 {
     let mut row = row_there(words, state);
     let Some(test) = put_test(slots, &mut row, side.registers, !turn)? else {
@@ -57,7 +57,7 @@ pub fn check_infeasible<D: Domain>(
     requires state { There words.now start }
     requires side { LegalSide side }
     requires room { known.old.count + length path.now ≤ 24 }
-    ensures { told_rule result ≡ never_taken ops (table_machine words.now) path.now (track_seen side start known.old outputs.old (forms slots.old)) }
+    ensures { told_rule result ≡ never_taken D.ops (table_machine words.now) path.now (track_seen side start known.old outputs.old (forms slots.old)) }
 {
     if path.is_empty() {
         return Err(RuleFault::NotInfeasible);

@@ -34,7 +34,7 @@ fn live_rules<D: Domain>(
     requires end { is_kept tables.counts claim.end.now ≡ true }
     requires substituted { Substituted (kept_pair tables.counts claim.end.now).symbols claim.words.now }
     requires short { length first.now ≤ 16 }
-    ensures { JudgesRules ops tables.entry.first.now tables.entry.second.now tables.entry.counts claim.entry.start.now claim.entry.end.now claim.entry.words.now first.now second.now result }
+    ensures { JudgesRules D.ops tables.entry.first.now tables.entry.second.now tables.entry.counts claim.entry.start.now claim.entry.end.now claim.entry.words.now first.now second.now result }
 {
     let ends = walk_both(slots, tables, claim.start, first, second)?;
     let there = states_of(tables.counts, claim.end);

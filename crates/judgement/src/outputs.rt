@@ -18,7 +18,7 @@ fn is_same_output<D: Domain>(
     j: usize,
 ) -> bool
     requires { (j < first.now.count) × (j < second.now.count) }
-    ensures { result ≡ same_output ops (output_at first.now.ports (forms slots.now) first_outputs j) (output_at second.now.ports (forms slots.now) second_outputs j) }
+    ensures { result ≡ same_output D.ops (output_at first.now.ports (forms slots.now) first_outputs j) (output_at second.now.ports (forms slots.now) second_outputs j) }
 {
     first.ports[j] == second.ports[j] && slots.same(FIRST_OUTPUTS + j, SECOND_OUTPUTS + j)
 }
@@ -29,7 +29,7 @@ pub fn compare_outputs<D: Domain>(
     first: &Outputs,
     second: &Outputs,
 ) -> Result<(), usize>
-    ensures { told_outputs result ≡ same_outputs ops 0 (outputs_seen first.now.ports (forms slots.now) first_outputs first.now.count) (outputs_seen second.now.ports (forms slots.now) second_outputs second.now.count) }
+    ensures { told_outputs result ≡ same_outputs D.ops 0 (outputs_seen first.now.ports (forms slots.now) first_outputs first.now.count) (outputs_seen second.now.ports (forms slots.now) second_outputs second.now.count) }
 {
     let common = first.count.min(second.count);
     for j in 0..common {

@@ -77,7 +77,7 @@ pub fn walk_both<D: Domain>(
     requires opened { Opened tables.first.now tables.second.now tables.counts }
     requires kept { is_kept tables.counts pair.now ≡ true }
     requires short { length first.now ≤ 16 }
-    ensures { told_walked ops result (forms slots.new) tables.entry.counts ≡ walked ops (table_machine tables.entry.first.now) (table_machine tables.entry.second.now) (kept_pair tables.entry.counts pair.now) first.now second.now }
+    ensures { told_walked D.ops result (forms slots.new) tables.entry.counts ≡ walked D.ops (table_machine tables.entry.first.now) (table_machine tables.entry.second.now) (kept_pair tables.entry.counts pair.now) first.now second.now }
 {
     let one = first_side(tables.counts);
     let two = second_side(tables.counts);
@@ -123,7 +123,7 @@ pub fn infeasible_rules<D: Domain>(
     requires opened { Opened tables.first.now tables.second.now tables.counts }
     requires kept { is_kept tables.counts pair.now ≡ true }
     requires short { length path.now ≤ 16 }
-    ensures { told_rule result ≡ infeasible_rules ops (table_machine tables.entry.first.now) (kept_pair tables.entry.counts pair.now) path.now }
+    ensures { told_rule result ≡ infeasible_rules D.ops (table_machine tables.entry.first.now) (kept_pair tables.entry.counts pair.now) path.now }
 {
     let one = first_side(tables.counts);
     let from = states_of(tables.counts, pair);

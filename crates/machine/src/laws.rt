@@ -21,20 +21,20 @@ pub fn tables_sound()
 
 // From every place there is one step.
 pub fn one_step<D: Domain>()
-    ensures { OneStep ops }
+    ensures { OneStep D.ops }
 {}
 
 // The stores of a step take effect together.
 pub fn stores_together<D: Domain>()
-    ensures { Together ops }
+    ensures { Together D.ops }
 {}
 
 // Runs are deterministic.
 pub fn runs_deterministic<D: Domain>()
-    ensures { Deterministic ops }
+    ensures { Deterministic D.ops }
 {}
 
 // A machine whose registers are shared is equivalent to itself.
 pub fn equivalent_itself<D: Domain>()
-    ensures { Reflexive ops }
+    ensures { Reflexive D.ops }
 {}

@@ -35,7 +35,7 @@ fn check_registers<D: Domain>(
     requires readable { ReadableRegisters words.now reached.count from }
     requires symbols { Below symbols }
     requires reached { Below reached }
-    ensures same { told_end result ≡ found_by (same_registers ops machine (nth (kept_seen (forms slots.old) symbols.first symbols.count)) 0 (registers_at words.now reached.count from) (kept_seen (forms slots.old) reached.first reached.count)) (behind_registers words.now reached.count from) }
+    ensures same { told_end result ≡ found_by (same_registers D.ops machine (nth (kept_seen (forms slots.old) symbols.first symbols.count)) 0 (registers_at words.now reached.count from) (kept_seen (forms slots.old) reached.first reached.count)) (behind_registers words.now reached.count from) }
     ensures kept { OnOk result (KeptBut left_at (forms slots.old) (forms slots.new)) }
 {
     let mut registers = from;
@@ -59,7 +59,7 @@ fn check_facts<D: Domain>(
 ) -> Result<(), EndFault>
     requires readable { ReadableFacts words.now facts place }
     requires symbols { Below symbols }
-    ensures settles { told_end result ≡ facts_settled ops (known_seen known.now.noted (forms slots.old) 0 known.now.count) (nth (kept_seen (forms slots.old) symbols.first symbols.count)) 0 (facts_at words.now facts place) }
+    ensures settles { told_end result ≡ facts_settled D.ops (known_seen known.now.noted (forms slots.old) 0 known.now.count) (nth (kept_seen (forms slots.old) symbols.first symbols.count)) 0 (facts_at words.now facts place) }
 {
     let mut at = place;
     for i in 0..facts as usize {
@@ -87,7 +87,7 @@ pub fn check_end<D: Domain>(
     requires fit { Fit counts }
     requires kept { is_kept counts pair.now ≡ true }
     requires substituted { Substituted (kept_pair counts pair.now).symbols claim.now }
-    ensures { JudgesEnd ops counts pair.now claim.now known.now (forms slots.old) result }
+    ensures { JudgesEnd D.ops counts pair.now claim.now known.now (forms slots.old) result }
 {
     let symbols = Group {
         first: SUBSTITUTION,

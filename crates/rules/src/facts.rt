@@ -29,7 +29,7 @@ pub fn work_out_fact<D: Domain>(
 ) -> Result<FactAt, OverLimits>
     requires readable { ReadableFact words.now place }
     requires symbols { BelowSymbols symbols }
-    ensures value { told result (at_hand (forms slots.new) (noted_fact (fact_cut words.now place))) ≡ fact_form ops (symbols_seen ops symbols (forms slots.old)) (fact_of words.now place (fact_cut words.now place)) }
+    ensures value { told result (at_hand (forms slots.new) (noted_fact (fact_cut words.now place))) ≡ fact_form D.ops (symbols_seen D.ops symbols (forms slots.old)) (fact_of words.now place (fact_cut words.now place)) }
     ensures kept { IfOk result (λ fact. (fact ≡ fact_cut words.now place) × KeptBelowTest (forms slots.old) (forms slots.new)) }
 {
     let fact = fact_at(words, place);
@@ -62,7 +62,7 @@ pub fn learn_facts<D: Domain>(
 ) -> Result<KnownTests, OverLimits>
     requires readable { ReadableFacts words.now facts place }
     requires few { facts ≤ 8 }
-    ensures known { told_known result (forms slots.new) ≡ fact_forms ops (symbol_form ops) (facts_at words.now facts place) }
+    ensures known { told_known result (forms slots.new) ≡ fact_forms D.ops (symbol_form D.ops) (facts_at words.now facts place) }
     ensures kept { IfOk result (λ known. (known.count ≡ facts) × KeptBeforeKnown (forms slots.old) (forms slots.new)) }
 {
     let mut known = none_known();

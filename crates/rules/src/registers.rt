@@ -54,7 +54,7 @@ fn work_out_symbol<D: Domain>(
     requires small { symbol < 0x10000000 }
     requires symbols { BelowSymbols symbols }
     requires slot { to < stack_at }
-    ensures value { told result (slice_index_or (forms slots.new) to []) ≡ form_in_proposal ops (symbols_seen ops symbols (forms slots.old)) (Symbol symbol ∷ []) }
+    ensures value { told result (slice_index_or (forms slots.new) to []) ≡ form_in_proposal D.ops (symbols_seen D.ops symbols (forms slots.old)) (Symbol symbol ∷ []) }
     ensures kept { OnOk result (KeptBut to (forms slots.old) (forms slots.new)) }
 {
     work_out(slots, symbols, &[SYMBOL + symbol], to)
@@ -71,7 +71,7 @@ fn work_out_at<D: Domain>(
     requires readable { ReadableAt words.now place }
     requires symbols { BelowSymbols symbols }
     requires slot { to < stack_at }
-    ensures value { told result (slice_index_or (forms slots.new) to []) ≡ form_in_proposal ops (symbols_seen ops symbols (forms slots.old)) (expression_at words.now place) }
+    ensures value { told result (slice_index_or (forms slots.new) to []) ≡ form_in_proposal D.ops (symbols_seen D.ops symbols (forms slots.old)) (expression_at words.now place) }
     ensures kept { IfOk result (λ behind. (behind ≡ end_at words.now place + 1) × KeptBut to (forms slots.old) (forms slots.new)) }
 {
     let end = expression_end(words, place);
@@ -90,7 +90,7 @@ pub fn work_out_register<D: Domain>(
     requires readable { ReadableRegister words.now registers }
     requires symbols { BelowSymbols symbols }
     requires slot { to < stack_at }
-    ensures value { told result (slice_index_or (forms slots.new) to []) ≡ form_in_proposal ops (symbols_seen ops symbols (forms slots.old)) (register_at words.now registers) }
+    ensures value { told result (slice_index_or (forms slots.new) to []) ≡ form_in_proposal D.ops (symbols_seen D.ops symbols (forms slots.old)) (register_at words.now registers) }
     ensures kept { IfOk result (λ next. (next ≡ next_register words.now registers) × KeptBut to (forms slots.old) (forms slots.new)) }
 {
     let in_words = registers.mask % 2 == 1;
@@ -119,7 +119,7 @@ pub fn work_out_registers<D: Domain>(
 ) -> Result<usize, OverLimits>
     requires readable { ReadableRegisters words.now group.count from }
     requires group { Below group }
-    ensures values { told result (kept_seen (forms slots.new) group.first group.count) ≡ formed ops (symbol_form ops) (registers_at words.now group.count from) }
+    ensures values { told result (kept_seen (forms slots.new) group.first group.count) ≡ formed D.ops (symbol_form D.ops) (registers_at words.now group.count from) }
     ensures kept { IfOk result (λ behind. (behind ≡ behind_registers words.now group.count from) × KeptButGroup group (forms slots.old) (forms slots.new)) }
 {
     let mut registers = from;

@@ -22,7 +22,7 @@ pub fn start<D: Domain>(
 ) -> Result<KnownTests, OverLimits>
     requires fit { Fit counts }
     requires kept { is_kept counts words.now ≡ true }
-    ensures starts { told_started ops result (forms slots.new) counts ≡ started ops (kept_pair counts words.now) }
+    ensures starts { told_started D.ops result (forms slots.new) counts ≡ started D.ops (kept_pair counts words.now) }
     ensures few { IfOk result (λ known. known.count ≤ 8) }
 {
     let first = Group {

@@ -33,7 +33,7 @@ pub fn work_out<D: Domain>(
     requires expression { is_expression (map item_of words.now) ≡ true }
     requires symbols { BelowSymbols symbols }
     requires slot { to < stack_at }
-    ensures value { told result (slice_index_or (forms slots.new) to []) ≡ form_in_proposal ops (symbols_seen ops symbols (forms slots.old)) (map item_of words.now) }
+    ensures value { told result (slice_index_or (forms slots.new) to []) ≡ form_in_proposal D.ops (symbols_seen D.ops symbols (forms slots.old)) (map item_of words.now) }
     ensures kept { OnOk result (KeptBut to (forms slots.old) (forms slots.new)) }
 {
     evaluate_into(slots, proposal_leaves(symbols), words, to)

@@ -6,15 +6,15 @@ use domain::Domain;
 
 // Where the known tests have their answers, a settled test has its own.
 pub fn settled_holds<D: Domain>()
-    ensures { Settles ops }
+    ensures { Settles D.ops }
 {}
 
 // The path condition and the data transformation of the first machine's walk.
 pub fn path_condition<D: Domain>()
-    ensures { FirstWalk ops }
+    ensures { FirstWalk D.ops }
 {}
 
 // A walk whose every turn is settled is the machine's way.
 pub fn settled_way<D: Domain>()
-    ensures { SecondWalk ops }
+    ensures { SecondWalk D.ops }
 {}

@@ -50,7 +50,7 @@ pub fn is_put_settled<D: Domain>(
     test: Option<Test>,
     turn: bool,
 ) -> bool
-    ensures { result ≡ all (settled ops (known_seen known.now.noted (forms slots.now) 0 known.now.count)) (put_seen test turn (forms slots.now)) }
+    ensures { result ≡ all (settled D.ops (known_seen known.now.noted (forms slots.now) 0 known.now.count)) (put_seen test turn (forms slots.now)) }
 {
     match test {
         Some(test) => is_settled(slots, known, Noted { test, says: turn }),

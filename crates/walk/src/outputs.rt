@@ -32,7 +32,7 @@ pub fn append_output<D: Domain>(
 ) -> Result<(), OverLimits>
     requires expression { is_expression (map item_of value.now) ≡ true }
     requires side { LegalSide side }
-    ensures appended { Appends result (form_in_table ops (kept_seen (forms slots.old) side.registers.first side.registers.count) (map item_of value.now)) port (outputs_seen outputs.old.ports (forms slots.old) side.outputs outputs.old.count) (outputs_seen outputs.new.ports (forms slots.new) side.outputs outputs.new.count) }
+    ensures appended { Appends result (form_in_table D.ops (kept_seen (forms slots.old) side.registers.first side.registers.count) (map item_of value.now)) port (outputs_seen outputs.old.ports (forms slots.old) side.outputs outputs.old.count) (outputs_seen outputs.new.ports (forms slots.new) side.outputs outputs.new.count) }
     ensures kept { OnOk result ((outputs.old.count < 16) × KeptBut (side.outputs + outputs.old.count) (forms slots.old) (forms slots.new)) }
 {
     if outputs.count >= MOST_OUTPUTS {

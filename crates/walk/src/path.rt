@@ -27,7 +27,7 @@ pub fn follow<D: Domain>(
     requires state { There words.now start }
     requires side { LegalSide side }
     requires room { known.old.count + length path.now ≤ 24 }
-    ensures walks { told_over result (λ s. track_seen side s known.new outputs.new (forms slots.new)) ≡ walk ops (learn ops) (table_machine words.now) 0 path.now (track_seen side start known.old outputs.old (forms slots.old)) }
+    ensures walks { told_over result (λ s. track_seen side s known.new outputs.new (forms slots.new)) ≡ walk D.ops (learn D.ops) (table_machine words.now) 0 path.now (track_seen side start known.old outputs.old (forms slots.old)) }
     ensures kept { OnOk result (KeptOtherSide side (forms slots.old) (forms slots.new)) }
     ensures state { IfOk result (λ s. There words.now s) }
 {
@@ -51,7 +51,7 @@ pub fn follow_settled<D: Domain>(
     requires table { IsTable words.now }
     requires state { There words.now start }
     requires side { LegalSide side }
-    ensures walks { SettledWalk ops (known_seen known.now.noted (forms slots.old) 0 known.now.count) (table_machine words.now) 0 path.now result (reached_seen side start outputs.old (forms slots.old)) (λ s. reached_seen side s outputs.new (forms slots.new)) }
+    ensures walks { SettledWalk D.ops (known_seen known.now.noted (forms slots.old) 0 known.now.count) (table_machine words.now) 0 path.now result (reached_seen side start outputs.old (forms slots.old)) (λ s. reached_seen side s outputs.new (forms slots.new)) }
     ensures kept { OnOk result (KeptApart side (forms slots.old) (forms slots.new)) }
 {
     let mut state = start;

@@ -33,7 +33,7 @@ pub fn hold_store<D: Domain>(
     requires expression { is_expression (map item_of value.now) ≡ true }
     requires registers { Below registers }
     requires room { pending.old.count < 8 }
-    ensures held { Waits result (form_in_table ops (kept_seen (forms slots.old) registers.first registers.count) (map item_of value.now)) register (stored_seen pending.old.targets (forms slots.old) pending.old.count) (stored_seen pending.new.targets (forms slots.new) pending.new.count) }
+    ensures held { Waits result (form_in_table D.ops (kept_seen (forms slots.old) registers.first registers.count) (map item_of value.now)) register (stored_seen pending.old.targets (forms slots.old) pending.old.count) (stored_seen pending.new.targets (forms slots.new) pending.new.count) }
     ensures count { OnOk result (pending.new.count ≡ pending.old.count + 1) }
     ensures kept { OnOk result (KeptNamed (forms slots.old) (forms slots.new)) }
 {

@@ -32,7 +32,7 @@ fn is_one(a: Test, b: Test) -> bool
 
 // The answer of a test.
 fn answer_of<D: Domain>(test: Test, v: D, w: D) -> bool
-    ensures { result ≡ answer ops test v w }
+    ensures { result ≡ answer D.ops test v w }
 {
     match test {
         Test::Same => v.same(w),
@@ -43,7 +43,7 @@ fn answer_of<D: Domain>(test: Test, v: D, w: D) -> bool
 // Whether known test j is the one at hand, with its answer.
 fn is_twin<D: Domain>(slots: &Slots<'_, D>, known: &KnownTests, asked: Noted, j: usize) -> bool
     requires { j < known.now.count }
-    ensures { result ≡ twin ops (at_hand (forms slots.now) asked) (known_at known.now.noted (forms slots.now) j) }
+    ensures { result ≡ twin D.ops (at_hand (forms slots.now) asked) (known_at known.now.noted (forms slots.now) j) }
 {
     let noted = known.noted[j];
     is_one(asked.test, noted.test)
@@ -54,7 +54,7 @@ fn is_twin<D: Domain>(slots: &Slots<'_, D>, known: &KnownTests, asked: Noted, j:
 
 // Whether the test at hand is known with this answer.
 fn is_known<D: Domain>(slots: &Slots<'_, D>, known: &KnownTests, asked: Noted) -> bool
-    ensures { result ≡ any (twin ops (at_hand (forms slots.now) asked)) (known_seen known.now.noted (forms slots.now) 0 known.now.count) }
+    ensures { result ≡ any (twin D.ops (at_hand (forms slots.now) asked)) (known_seen known.now.noted (forms slots.now) 0 known.now.count) }
 {
     for j in 0..known.count {
         if is_twin(slots, known, asked, j) {
@@ -66,7 +66,7 @@ fn is_known<D: Domain>(slots: &Slots<'_, D>, known: &KnownTests, asked: Noted) -
 
 // Whether both sides are constants, and the domain gives this answer.
 fn by_constants<D: Domain>(slots: &Slots<'_, D>, asked: Noted) -> bool
-    ensures { result ≡ by_constants ops asked.test asked.says (fixed ops (slice_index_or (forms slots.now) left_at [])) (fixed ops (slice_index_or (forms slots.now) right_at [])) }
+    ensures { result ≡ by_constants D.ops asked.test asked.says (fixed D.ops (slice_index_or (forms slots.now) left_at [])) (fixed D.ops (slice_index_or (forms slots.now) right_at [])) }
 {
     let Some(v) = slots.fixed(LEFT) else {
         return false;
@@ -79,7 +79,7 @@ fn by_constants<D: Domain>(slots: &Slots<'_, D>, asked: Noted) -> bool
 
 // Whether the answer of the test at hand is settled.
 pub fn is_settled<D: Domain>(slots: &Slots<'_, D>, known: &KnownTests, asked: Noted) -> bool
-    ensures { result ≡ settled ops (known_seen known.now.noted (forms slots.now) 0 known.now.count) (at_hand (forms slots.now) asked) }
+    ensures { result ≡ settled D.ops (known_seen known.now.noted (forms slots.now) 0 known.now.count) (at_hand (forms slots.now) asked) }
 {
     is_known(slots, known, asked)
         || by_constants(slots, asked)

@@ -46,7 +46,7 @@ pub fn learn_step<D: Domain>(
     requires state { There words.now state }
     requires side { LegalSide side }
     requires room { known.old.count < 24 }
-    ensures steps { told_over result (λ s. track_seen side s known.new outputs.new (forms slots.new)) ≡ step ops (λ tests. good tt) (row_at (table_machine words.now) state) turn (track_seen side state known.old outputs.old (forms slots.old)) }
+    ensures steps { told_over result (λ s. track_seen side s known.new outputs.new (forms slots.new)) ≡ step D.ops (λ tests. good tt) (row_at (table_machine words.now) state) turn (track_seen side state known.old outputs.old (forms slots.old)) }
     ensures state { IfOk result (λ s. There words.now s) }
     ensures count { OnOk result (known.new.count ≤ known.old.count + 1) }
     ensures kept { OnOk result (KeptOtherSide side (forms slots.old) (forms slots.new)) }
@@ -71,7 +71,7 @@ pub fn settled_step<D: Domain>(
     requires table { IsTable words.now }
     requires state { There words.now state }
     requires side { LegalSide side }
-    ensures steps { SettledStep ops (known_seen known.now.noted (forms slots.old) 0 known.now.count) index (row_at (table_machine words.now) state) turn result (reached_seen side state outputs.old (forms slots.old)) (λ s. reached_seen side s outputs.new (forms slots.new)) }
+    ensures steps { SettledStep D.ops (known_seen known.now.noted (forms slots.old) 0 known.now.count) index (row_at (table_machine words.now) state) turn result (reached_seen side state outputs.old (forms slots.old)) (λ s. reached_seen side s outputs.new (forms slots.new)) }
     ensures state { IfOk result (λ s. There words.now s) }
     ensures kept { OnOk result (KeptApart side (forms slots.old) (forms slots.new)) }
 {

@@ -26,7 +26,7 @@ fn hold_actions<D: Domain>(
 ) -> Result<u32, OverLimits>
     requires side { LegalSide side }
     requires readable { Readable pending.old.count (transition_of (ahead row.old)) }
-    ensures held { told result (held_seen side pending.new outputs.new (kept_seen (forms slots.old) side.registers.first side.registers.count) (forms slots.new)) ≡ acted ops (form_in_table ops (kept_seen (forms slots.old) side.registers.first side.registers.count)) (transition_of (ahead row.old)).actions (held_seen side pending.old outputs.old (kept_seen (forms slots.old) side.registers.first side.registers.count) (forms slots.old)) }
+    ensures held { told result (held_seen side pending.new outputs.new (kept_seen (forms slots.old) side.registers.first side.registers.count) (forms slots.new)) ≡ acted D.ops (form_in_table D.ops (kept_seen (forms slots.old) side.registers.first side.registers.count)) (transition_of (ahead row.old)).actions (held_seen side pending.old outputs.old (kept_seen (forms slots.old) side.registers.first side.registers.count) (forms slots.old)) }
     ensures target { IfOk result (λ s. s ≡ (transition_of (ahead row.old)).target) }
     ensures kept { OnOk result (KeptBeside side (forms slots.old) (forms slots.new)) }
 {
@@ -52,7 +52,7 @@ pub fn take_transition<D: Domain>(
 ) -> Result<u32, OverLimits>
     requires side { LegalSide side }
     requires readable { Readable 0 (transition_of (ahead row.old)) }
-    ensures acted { told result (acted_seen side outputs.new (forms slots.new)) ≡ acted ops (form_in_table ops (kept_seen (forms slots.old) side.registers.first side.registers.count)) (transition_of (ahead row.old)).actions (acted_seen side outputs.old (forms slots.old)) }
+    ensures acted { told result (acted_seen side outputs.new (forms slots.new)) ≡ acted D.ops (form_in_table D.ops (kept_seen (forms slots.old) side.registers.first side.registers.count)) (transition_of (ahead row.old)).actions (acted_seen side outputs.old (forms slots.old)) }
     ensures target { IfOk result (λ s. s ≡ (transition_of (ahead row.old)).target) }
     ensures kept { OnOk result (KeptApart side (forms slots.old) (forms slots.new)) }
 {

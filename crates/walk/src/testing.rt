@@ -35,7 +35,7 @@ pub fn put_test<D: Domain>(
 ) -> Result<Option<Test>, OverLimits>
     requires registers { Below registers }
     requires readable { ReadableRow (row_of (ahead row.old)) }
-    ensures tests { put_told result turn (forms slots.new) ≡ tested ops (row_of (ahead row.old)) turn (kept_seen (forms slots.old) registers.first registers.count) }
+    ensures tests { put_told result turn (forms slots.new) ≡ tested D.ops (row_of (ahead row.old)) turn (kept_seen (forms slots.old) registers.first registers.count) }
     ensures goes { OnOk result (transition_of (ahead row.new) ≡ chosen (row_of (ahead row.old)) turn) }
     ensures kept { OnOk result (KeptBelowTest (forms slots.old) (forms slots.new)) }
 {

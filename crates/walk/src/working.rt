@@ -32,7 +32,7 @@ pub fn work_out<D: Domain>(
     requires expression { is_expression (map item_of words.now) ≡ true }
     requires registers { Below registers }
     requires slot { to < stack_at }
-    ensures value { told result (slice_index_or (forms slots.new) to []) ≡ form_in_table ops (kept_seen (forms slots.old) registers.first registers.count) (map item_of words.now) }
+    ensures value { told result (slice_index_or (forms slots.new) to []) ≡ form_in_table D.ops (kept_seen (forms slots.old) registers.first registers.count) (map item_of words.now) }
     ensures kept { OnOk result (KeptBut to (forms slots.old) (forms slots.new)) }
 {
     evaluate_into(slots, table_leaves(registers), words, to)

@@ -36,7 +36,7 @@ impl<D: Domain> Slots<'_, D> {
     // Slot `to` gets the sum of the forms of two slots.
     pub fn sum(&mut self, a: usize, b: usize, to: usize) -> Result<(), OverLimits>
         requires slots { (a < slot_count) × ((b < slot_count) × (to < slot_count)) }
-        ensures forms { told result (forms self.new) ≡ give to (Forms.sum ops (slice_index_or (forms self.old) a []) (slice_index_or (forms self.old) b [])) (forms self.old) }
+        ensures forms { told result (forms self.new) ≡ give to (Forms.sum D.ops (slice_index_or (forms self.old) a []) (slice_index_or (forms self.old) b [])) (forms self.old) }
     {
         let Slots { row, lens } = self;
         operations::sum(row, lens, a, b, to)
@@ -45,7 +45,7 @@ impl<D: Domain> Slots<'_, D> {
     // Slot `to` gets the difference of the forms of two slots.
     pub fn difference(&mut self, a: usize, b: usize, to: usize) -> Result<(), OverLimits>
         requires slots { (a < slot_count) × ((b < slot_count) × (to < slot_count)) }
-        ensures forms { told result (forms self.new) ≡ give to (Forms.difference ops (slice_index_or (forms self.old) a []) (slice_index_or (forms self.old) b [])) (forms self.old) }
+        ensures forms { told result (forms self.new) ≡ give to (Forms.difference D.ops (slice_index_or (forms self.old) a []) (slice_index_or (forms self.old) b [])) (forms self.old) }
     {
         let Slots { row, lens } = self;
         operations::difference(row, lens, a, b, to)
@@ -54,7 +54,7 @@ impl<D: Domain> Slots<'_, D> {
     // Slot `to` gets the product of the forms of two slots.
     pub fn product(&mut self, a: usize, b: usize, to: usize) -> Result<(), OverLimits>
         requires slots { (a < slot_count) × ((b < slot_count) × (to < slot_count)) }
-        ensures forms { told result (forms self.new) ≡ give to (Forms.product ops (slice_index_or (forms self.old) a []) (slice_index_or (forms self.old) b [])) (forms self.old) }
+        ensures forms { told result (forms self.new) ≡ give to (Forms.product D.ops (slice_index_or (forms self.old) a []) (slice_index_or (forms self.old) b [])) (forms self.old) }
     {
         let Slots { row, lens } = self;
         operations::product(row, lens, a, b, to)
@@ -72,7 +72,7 @@ impl<D: Domain> Slots<'_, D> {
     // Slot `to` gets the form of slot `a` negated.
     pub fn negation(&mut self, a: usize, to: usize)
         requires slots { (a < slot_count) × (to < slot_count) }
-        ensures forms { forms self.new ≡ slice_set (forms self.old) to (Forms.negation ops (slice_index_or (forms self.old) a [])) }
+        ensures forms { forms self.new ≡ slice_set (forms self.old) to (Forms.negation D.ops (slice_index_or (forms self.old) a [])) }
     {
         let Slots { row, lens } = self;
         operations::negation(row, lens, a, to)
@@ -81,7 +81,7 @@ impl<D: Domain> Slots<'_, D> {
     // Slot `to` gets a constant.
     pub fn constant(&mut self, n: u32, to: usize)
         requires slots { to < slot_count }
-        ensures forms { forms self.new ≡ slice_set (forms self.old) to (Forms.constant_form ops n) }
+        ensures forms { forms self.new ≡ slice_set (forms self.old) to (Forms.constant_form D.ops n) }
     {
         let Slots { row, lens } = self;
         operations::constant(row, lens, n, to)
@@ -90,7 +90,7 @@ impl<D: Domain> Slots<'_, D> {
     // Slot `to` gets the variable with this code.
     pub fn variable(&mut self, code: u8, to: usize)
         requires slots { to < slot_count }
-        ensures forms { forms self.new ≡ slice_set (forms self.old) to (Forms.variable ops code) }
+        ensures forms { forms self.new ≡ slice_set (forms self.old) to (Forms.variable D.ops code) }
     {
         let Slots { row, lens } = self;
         operations::variable(row, lens, code, to)
@@ -99,7 +99,7 @@ impl<D: Domain> Slots<'_, D> {
     // Slot `to` gets symbol n, if it has a code.
     pub fn symbol(&mut self, n: u32, to: usize) -> Result<(), OverLimits>
         requires slots { to < slot_count }
-        ensures forms { told result (forms self.new) ≡ give to (Forms.symbol_form ops n) (forms self.old) }
+        ensures forms { told result (forms self.new) ≡ give to (Forms.symbol_form D.ops n) (forms self.old) }
     {
         if n >= SYMBOLS {
             return Err(OverLimits);
@@ -111,7 +111,7 @@ impl<D: Domain> Slots<'_, D> {
     // Slot `to` gets input n, if it has a code.
     pub fn input(&mut self, n: u32, to: usize) -> Result<(), OverLimits>
         requires slots { to < slot_count }
-        ensures forms { told result (forms self.new) ≡ give to (Forms.input_form ops n) (forms self.old) }
+        ensures forms { told result (forms self.new) ≡ give to (Forms.input_form D.ops n) (forms self.old) }
     {
         if n >= INPUTS {
             return Err(OverLimits);
@@ -136,7 +136,7 @@ impl<D: Domain> Slots<'_, D> {
     // Whether two slots have one form.
     pub fn same(&self, a: usize, b: usize) -> bool
         requires slots { (a < slot_count) × (b < slot_count) }
-        ensures { result ≡ Forms.same_form ops (slice_index_or (forms self.now) a []) (slice_index_or (forms self.now) b []) }
+        ensures { result ≡ Forms.same_form D.ops (slice_index_or (forms self.now) a []) (slice_index_or (forms self.now) b []) }
     {
         operations::same_slots(self.row, &self.lens, a, b)
     }
@@ -144,7 +144,7 @@ impl<D: Domain> Slots<'_, D> {
     // The constant that the form of a slot is, if it is one.
     pub fn fixed(&self, a: usize) -> Option<D>
         requires slots { a < slot_count }
-        ensures { result ≡ Forms.fixed ops (slice_index_or (forms self.now) a []) }
+        ensures { result ≡ Forms.fixed D.ops (slice_index_or (forms self.now) a []) }
     {
         operations::fixed_slot(self.row, &self.lens, a)
     }

@@ -26,7 +26,7 @@ fn apply<D: Domain>(
     requires stands { Stands depth item }
     requires leaves { Legal leaves }
     ensures kept { told result (below_stack (forms slots.new)) ≡ told result (below_stack (forms slots.old)) }
-    ensures stack { told result (stack (depth - takes item + 1) (forms slots.new)) ≡ Run.step (reading ops leaves (named (forms slots.old))) item (stack depth (forms slots.old)) }
+    ensures stack { told result (stack (depth - takes item + 1) (forms slots.new)) ≡ Run.step (reading D.ops leaves (named (forms slots.old))) item (stack depth (forms slots.old)) }
 {
     let top = STACK + depth;
     match item {
@@ -54,7 +54,7 @@ pub fn evaluate<D: Domain>(
     requires expression { is_expression (map item_of words.now) ≡ true }
     requires leaves { Legal leaves }
     ensures kept { told result (below_stack (forms slots.new)) ≡ told result (below_stack (forms slots.old)) }
-    ensures value { told result (slice_index_or (forms slots.new) stack_at []) ≡ Run.meaning (reading ops leaves (named (forms slots.old))) (map item_of words.now) }
+    ensures value { told result (slice_index_or (forms slots.new) stack_at []) ≡ Run.meaning (reading D.ops leaves (named (forms slots.old))) (map item_of words.now) }
 {
     let mut depth: usize = 0;
     for w in words {
@@ -75,7 +75,7 @@ pub fn evaluate_into<D: Domain>(
     requires expression { is_expression (map item_of words.now) ≡ true }
     requires leaves { Legal leaves }
     requires slot { to < stack_at }
-    ensures forms { told result (below_stack (forms slots.new)) ≡ give to (Run.meaning (reading ops leaves (named (forms slots.old))) (map item_of words.now)) (below_stack (forms slots.old)) }
+    ensures forms { told result (below_stack (forms slots.new)) ≡ give to (Run.meaning (reading D.ops leaves (named (forms slots.old))) (map item_of words.now)) (below_stack (forms slots.old)) }
 {
     evaluate(slots, leaves, words)?;
     slots.copy(STACK, to);

@@ -80,7 +80,7 @@ pub fn sum<D: Domain>(
     requires ready { Ready lens.old.of row.old }
     requires slots { (a < slot_count) × ((b < slot_count) × (to < slot_count)) }
     ensures ready { Ready lens.new.of row.new }
-    ensures forms { told result (slots lens.new.of row.new) ≡ give to (Forms.sum ops (slice_index_or (slots lens.old.of row.old) a []) (slice_index_or (slots lens.old.of row.old) b [])) (slots lens.old.of row.old) }
+    ensures forms { told result (slots lens.new.of row.new) ≡ give to (Forms.sum D.ops (slice_index_or (slots lens.old.of row.old) a []) (slice_index_or (slots lens.old.of row.old) b [])) (slots lens.old.of row.old) }
 {
     let p = lens.span(a);
     let q = lens.span(b);
@@ -99,7 +99,7 @@ pub fn difference<D: Domain>(
     requires ready { Ready lens.old.of row.old }
     requires slots { (a < slot_count) × ((b < slot_count) × (to < slot_count)) }
     ensures ready { Ready lens.new.of row.new }
-    ensures forms { told result (slots lens.new.of row.new) ≡ give to (Forms.difference ops (slice_index_or (slots lens.old.of row.old) a []) (slice_index_or (slots lens.old.of row.old) b [])) (slots lens.old.of row.old) }
+    ensures forms { told result (slots lens.new.of row.new) ≡ give to (Forms.difference D.ops (slice_index_or (slots lens.old.of row.old) a []) (slice_index_or (slots lens.old.of row.old) b [])) (slots lens.old.of row.old) }
 {
     let p = lens.span(a);
     let q = lens.span(b);
@@ -130,7 +130,7 @@ pub fn product<D: Domain>(
     requires ready { Ready lens.old.of row.old }
     requires slots { (a < slot_count) × ((b < slot_count) × (to < slot_count)) }
     ensures ready { Ready lens.new.of row.new }
-    ensures forms { told result (slots lens.new.of row.new) ≡ give to (Forms.product ops (slice_index_or (slots lens.old.of row.old) a []) (slice_index_or (slots lens.old.of row.old) b [])) (slots lens.old.of row.old) }
+    ensures forms { told result (slots lens.new.of row.new) ≡ give to (Forms.product D.ops (slice_index_or (slots lens.old.of row.old) a []) (slice_index_or (slots lens.old.of row.old) b [])) (slots lens.old.of row.old) }
 {
     let p = lens.span(a);
     let q = lens.span(b);
@@ -146,7 +146,7 @@ pub fn negation<D: Domain>(row: &mut [Term<D>], lens: &mut Lengths, a: usize, to
     requires ready { Ready lens.old.of row.old }
     requires slots { (a < slot_count) × (to < slot_count) }
     ensures ready { Ready lens.new.of row.new }
-    ensures forms { slots lens.new.of row.new ≡ slice_set (slots lens.old.of row.old) to (Forms.negation ops (slice_index_or (slots lens.old.of row.old) a [])) }
+    ensures forms { slots lens.new.of row.new ≡ slice_set (slots lens.old.of row.old) to (Forms.negation D.ops (slice_index_or (slots lens.old.of row.old) a [])) }
 {
     let p = lens.span(a);
     let s = negate(row, p, SCRATCH);
@@ -158,7 +158,7 @@ fn single<D: Domain>(row: &mut [Term<D>], lens: &mut Lengths, t: Term<D>, to: us
     requires ready { Ready lens.old.of row.old }
     requires slot { to < slot_count }
     ensures ready { Ready lens.new.of row.new }
-    ensures forms { slots lens.new.of row.new ≡ slice_set (slots lens.old.of row.old) to (Forms.unless_zero ops t []) }
+    ensures forms { slots lens.new.of row.new ≡ slice_set (slots lens.old.of row.old) to (Forms.unless_zero D.ops t []) }
 {
     if t.coefficient.same(D::zero()) {
         lens.of[to] = 0;
@@ -173,7 +173,7 @@ pub fn constant<D: Domain>(row: &mut [Term<D>], lens: &mut Lengths, n: u32, to: 
     requires ready { Ready lens.old.of row.old }
     requires slot { to < slot_count }
     ensures ready { Ready lens.new.of row.new }
-    ensures forms { slots lens.new.of row.new ≡ slice_set (slots lens.old.of row.old) to (Forms.constant_form ops n) }
+    ensures forms { slots lens.new.of row.new ≡ slice_set (slots lens.old.of row.old) to (Forms.constant_form D.ops n) }
 {
     single(
         row,
@@ -191,7 +191,7 @@ pub fn variable<D: Domain>(row: &mut [Term<D>], lens: &mut Lengths, code: u8, to
     requires ready { Ready lens.old.of row.old }
     requires slot { to < slot_count }
     ensures ready { Ready lens.new.of row.new }
-    ensures forms { slots lens.new.of row.new ≡ slice_set (slots lens.old.of row.old) to (Forms.variable ops code) }
+    ensures forms { slots lens.new.of row.new ≡ slice_set (slots lens.old.of row.old) to (Forms.variable D.ops code) }
 {
     single(
         row,
@@ -208,7 +208,7 @@ pub fn variable<D: Domain>(row: &mut [Term<D>], lens: &mut Lengths, code: u8, to
 pub fn same_slots<D: Domain>(row: &[Term<D>], lens: &Lengths, a: usize, b: usize) -> bool
     requires ready { Ready lens.now.of row.now }
     requires slots { (a < slot_count) × (b < slot_count) }
-    ensures { result ≡ Forms.same_form ops (slice_index_or (slots lens.now.of row.now) a []) (slice_index_or (slots lens.now.of row.now) b []) }
+    ensures { result ≡ Forms.same_form D.ops (slice_index_or (slots lens.now.of row.now) a []) (slice_index_or (slots lens.now.of row.now) b []) }
 {
     same_parts(row, lens.span(a), lens.span(b))
 }
@@ -217,7 +217,7 @@ pub fn same_slots<D: Domain>(row: &[Term<D>], lens: &Lengths, a: usize, b: usize
 pub fn fixed_slot<D: Domain>(row: &[Term<D>], lens: &Lengths, a: usize) -> Option<D>
     requires ready { Ready lens.now.of row.now }
     requires slot { a < slot_count }
-    ensures { result ≡ Forms.fixed ops (slice_index_or (slots lens.now.of row.now) a []) }
+    ensures { result ≡ Forms.fixed D.ops (slice_index_or (slots lens.now.of row.now) a []) }
 {
     let s = lens.span(a);
     let i = s.from;

@@ -36,7 +36,7 @@ pub fn compare_forms<D: Domain>(
     requires left { is_expression (map item_of left.now) ≡ true }
     requires right { is_expression (map item_of right.now) ≡ true }
     ensures kept { told result (take left_at (forms slots.new)) ≡ told result (take left_at (forms slots.old)) }
-    ensures answer { answered result ≡ compared ops (Run.meaning (reading ops leaves (named (forms slots.old))) (map item_of left.now)) (Run.meaning (reading ops leaves (named (forms slots.old))) (map item_of right.now)) }
+    ensures answer { answered result ≡ compared D.ops (Run.meaning (reading D.ops leaves (named (forms slots.old))) (map item_of left.now)) (Run.meaning (reading D.ops leaves (named (forms slots.old))) (map item_of right.now)) }
 {
     evaluate_into(slots, leaves, left, LEFT)?;
     evaluate_into(slots, leaves, right, RIGHT)?;
@@ -55,8 +55,8 @@ fn compare_from<D: Domain>(
     requires right { is_expression (map item_of right.now) ≡ true }
     ensures kept { take at row.new ≡ take at row.old }
     ensures long { length row.new ≡ length row.old }
-    ensures answer { answered result ≡ one_form ops (map item_of left.now) (map item_of right.now) }
-    ensures polynomials { Judged ops result (map item_of left.now) (map item_of right.now) }
+    ensures answer { answered result ≡ one_form D.ops (map item_of left.now) (map item_of right.now) }
+    ensures polynomials { Judged D.ops result (map item_of left.now) (map item_of right.now) }
 {
     let mut slots = Slots {
         row: &mut row[at..],
@@ -78,8 +78,8 @@ fn compare_above<D: Domain>(
     ensures level { level.new ≡ level.old }
     ensures kept { take level.old.at row.new ≡ take level.old.at row.old }
     ensures long { length row.new ≡ length row.old }
-    ensures answer { answered result ≡ one_form ops (map item_of left.now) (map item_of right.now) }
-    ensures polynomials { Judged ops result (map item_of left.now) (map item_of right.now) }
+    ensures answer { answered result ≡ one_form D.ops (map item_of left.now) (map item_of right.now) }
+    ensures polynomials { Judged D.ops result (map item_of left.now) (map item_of right.now) }
 {
     let old = *level;
     let held = Held { level, old };
@@ -96,8 +96,8 @@ impl<D: Domain> Workspace<'_, D> {
         ensures level { self.new.level ≡ self.old.level }
         ensures kept { take self.old.level.at self.new.row.now ≡ take self.old.level.at self.old.row.now }
         ensures long { length self.new.row.now ≡ length self.old.row.now }
-        ensures answer { answered result ≡ one_form ops (map item_of left.now) (map item_of right.now) }
-        ensures polynomials { Judged ops result (map item_of left.now) (map item_of right.now) }
+        ensures answer { answered result ≡ one_form D.ops (map item_of left.now) (map item_of right.now) }
+        ensures polynomials { Judged D.ops result (map item_of left.now) (map item_of right.now) }
         ensures lender { self.new.row.ghost_name ≡ self.old.row.ghost_name }
     {
         let Workspace { row, level } = self;

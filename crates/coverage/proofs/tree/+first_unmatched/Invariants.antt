@@ -1,4 +1,4 @@
 use Rattle.coverage.proofs.tree.+first_unmatched.Given as goal
 
-abbrev pub decreases-first-unmatched : goal.decreases-first-unmatched
-decreases-first-unmatched l = l.left
+abbrev pub decreases-first_unmatched : goal.decreases-first_unmatched
+decreases-first_unmatched l = l.left

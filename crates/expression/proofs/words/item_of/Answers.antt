@@ -3,4 +3,4 @@ use Rattle.expression.proofs.words.item_of.Goals as goal
 
 pub returns : goal.returns
 unfolding item_of
-returns c = c.item-at.ensures
+returns c = c.item_at.ensures

@@ -33,7 +33,7 @@ pub loop-x-preserved : goal.loop-x-preserved
 loop-x-preserved g c =
     let o = g.D.Domain.ops in
     let i = c.loop-x.invariant in
-    let e = c.in-default.ensures in
+    let e = c.in_default.ensures in
     let k = keeps _ _ _ i.0 in
     let wx = within_less _ _ _ e.x i.1 in
     let wy = within_less _ _ _ e.y i.2 in

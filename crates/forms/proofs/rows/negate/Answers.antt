@@ -9,8 +9,8 @@ use Rattle.forms.proofs.rows.negate.Goals as goal
 pub loop-y-init : goal.loop-y-init
 loop-y-init g c = (start _ _ _ (omega arith), c.requires.b, c.requires.room)
 
-pub offset-bounds-row-end : goal.offset-bounds-row-end
-offset-bounds-row-end g c = let h : c.loop-y.end < length c.loop-y.row = omega (arith, c.loop-y.invariant.2) in search rules
+pub offset_bounds-row-end : goal.offset_bounds-row-end
+offset_bounds-row-end g c = let h : c.loop-y.end < length c.loop-y.row = omega (arith, c.loop-y.invariant.2) in search rules
 
 pub loop-y-preserved : goal.loop-y-preserved
 loop-y-preserved g c =

@@ -16,4 +16,4 @@ use Rattle.guarantee.proofs.points.points_hold.Goals as goal
 
 pub returns : goal.returns
 unfolding opening transition rows first_rows filing all_stored read_pair_head read_mask read_facts read_body read_pair read_claim_head read_path read_claim judge in_order walk settled never_taken same_outputs same_registers facts_settled end_holds live_rules infeasible_rules unmatched verdict meaning is_expression split item_of sum difference product constant_form variable K degree times_word
-returns c = record { forms = c.points-hold.ensures; counter = refl; counter_without = refl }
+returns c = record { forms = c.points_hold.ensures; counter = refl; counter_without = refl }

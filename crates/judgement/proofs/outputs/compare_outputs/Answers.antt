@@ -7,11 +7,11 @@ use Rattle.judgement.proofs.outputs.compare_outputs.Goals as goal
 pub loop-j-init : goal.loop-j-init
 loop-j-init g c = compare_start g.D.Domain.ops c.args.first.now.ports c.args.second.now.ports (forms c.args.slots.now) c.args.first.now.count c.args.second.now.count
 
-pub returns-then-not-is-same-output : goal.returns-then-not-is-same-output
-returns-then-not-is-same-output g c = not_same g.D.Domain.ops c.args.first.now.ports c.args.second.now.ports (forms c.args.slots.now) c.args.first.now.count c.args.second.now.count c.loop-j.j (omega arith) (omega arith) (sym c.is-same-output.ensures ∙ c.if-not-is-same-output.true) c.loop-j.invariant
+pub returns-then-not-is_same_output : goal.returns-then-not-is_same_output
+returns-then-not-is_same_output g c = not_same g.D.Domain.ops c.args.first.now.ports c.args.second.now.ports (forms c.args.slots.now) c.args.first.now.count c.args.second.now.count c.loop-j.j (omega arith) (omega arith) (sym c.is_same_output.ensures ∙ c.if-not-is_same_output.true) c.loop-j.invariant
 
 pub loop-j-preserved : goal.loop-j-preserved
-loop-j-preserved g c = same_so_far g.D.Domain.ops c.args.first.now.ports c.args.second.now.ports (forms c.args.slots.now) c.args.first.now.count c.args.second.now.count c.loop-j.j (omega arith) (omega arith) (sym c.is-same-output.ensures ∙ c.if-not-is-same-output.false) c.loop-j.invariant
+loop-j-preserved g c = same_so_far g.D.Domain.ops c.args.first.now.ports c.args.second.now.ports (forms c.args.slots.now) c.args.first.now.count c.args.second.now.count c.loop-j.j (omega arith) (omega arith) (sym c.is_same_output.ensures ∙ c.if-not-is_same_output.false) c.loop-j.invariant
 
 pub returns-then-first-second : goal.returns-then-first-second
 returns-then-first-second g c = as_many g.D.Domain.ops c.args.first.now.ports c.args.second.now.ports (forms c.args.slots.now) c.args.first.now.count c.args.second.now.count c.loop-j.j (omega arith) (omega arith) c.loop-j.invariant

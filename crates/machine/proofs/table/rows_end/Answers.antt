@@ -8,10 +8,10 @@ pub loop-i-init : goal.loop-i-init
 unfolding rows
 loop-i-init c = search rules
 
-pub returns-in-err-p : goal.returns-in-err-p
-returns-in-err-p c =
-    let e = c.from-residual.ensures.1 in
-    let stop = rows_refused _ _ _ _ _ _ _ _ c.loop-i.invariant.2 (omega arith) c.in-err-p.ensures.reads in
+pub returns-in_err-p : goal.returns-in_err-p
+returns-in_err-p c =
+    let e = c.from_residual.ensures.1 in
+    let stop = rows_refused _ _ _ _ _ _ _ _ c.loop-i.invariant.2 (omega arith) c.in_err-p.ensures.reads in
     record { reads = exit_told _ _ _ e stop; within = exit_within _ _ _ e }
 
 pub loop-i-preserved : goal.loop-i-preserved

@@ -2,8 +2,8 @@ use Rattle.std.proofs.Common.{rules}
 use Rattle.machine.proofs.Steps.{transition_at}
 use Rattle.machine.proofs.table.transition_end.Goals as goal
 
-pub returns-in-err-q : goal.returns-in-err-q
-returns-in-err-q c = let e = transition_at c.args.limits.now c.args.words.now c.actions.left c.actions.stored c.actions.p in search rules
+pub returns-in_err-q : goal.returns-in_err-q
+returns-in_err-q c = let e = transition_at c.args.limits.now c.args.words.now c.actions.left c.actions.stored c.actions.p in search rules
 
 pub returns-then-p-q : goal.returns-then-p-q
 returns-then-p-q c = let e = transition_at c.args.limits.now c.args.words.now c.actions.left c.actions.stored c.actions.p in search rules

@@ -8,8 +8,8 @@ use Rattle.machine.proofs.view.part_end.Goals as goal
 pub loop-i-init : goal.loop-i-init
 loop-i-init c = let e = part_none c.args.words.now c.args.from in search rules
 
-pub returns-then-is-end : goal.returns-then-is-end
-returns-then-is-end c = let e = at_drop_more (parts (part c.args.words.now c.args.from c.loop-i.i)) c.args.words.now c.loop-i.i 0 (omega arith) in search rules
+pub returns-then-is_end : goal.returns-then-is_end
+returns-then-is_end c = let e = at_drop_more (parts (part c.args.words.now c.args.from c.loop-i.i)) c.args.words.now c.loop-i.i 0 (omega arith) in search rules
 
 pub loop-i-preserved : goal.loop-i-preserved
 loop-i-preserved c =

@@ -4,4 +4,4 @@ use Rattle.proposal.proofs.Cuts.{cuts_fact}
 use Rattle.proposal.proofs.cursor.fact_at.Goals as goal
 
 pub returns : goal.returns
-returns c = record { place = c.find-fact.ensures; cuts = subst (CutsFact c.args.words.now c.args.from) (sym c.find-fact.ensures) (cuts_fact c.args.words.now c.args.from) }
+returns c = record { place = c.find_fact.ensures; cuts = subst (CutsFact c.args.words.now c.args.from) (sym c.find_fact.ensures) (cuts_fact c.args.words.now c.args.from) }

@@ -4,16 +4,16 @@ use Rattle.proposal.proofs.Walk.{ones_positive, ones_cleared, no_ones, cleared_b
 use Rattle.proposal.proofs.Stores.{masked_more, masked_end}
 use Rattle.proposal.proofs.stored.masked_end.Goals as goal
 
-pub overflow-sub-left : goal.overflow-sub-left
-overflow-sub-left c = let h : 0 < ones c.loop-i.left = omega arith in omega (arith, ones_positive c.loop-i.left h)
+pub overflow_sub-left : goal.overflow_sub-left
+overflow_sub-left c = let h : 0 < ones c.loop-i.left = omega arith in omega (arith, ones_positive c.loop-i.left h)
 
-pub returns-in-err-place : goal.returns-in-err-place
-returns-in-err-place c = λ n h.
+pub returns-in_err-place : goal.returns-in_err-place
+returns-in_err-place c = λ n h.
     (let some : 0 < ones c.loop-i.left = omega arith in
     let short : c.loop-i.left < 2 ^ 32 = (c.loop-i.invariant.1 32 (omega arith)).0 in
     let inv = c.loop-i.invariant.1 n h in
     let e = masked_more 6 c.args.limits.now c.args.words.now n c.loop-i.left c.loop-i.place (ones_positive c.loop-i.left some) short inv.0 in
-    let f = c.in-err-place.ensures.reads 6 in search rules)
+    let f = c.in_err-place.ensures.reads 6 in search rules)
 
 pub loop-i-preserved : goal.loop-i-preserved
 loop-i-preserved c =
@@ -25,7 +25,7 @@ loop-i-preserved c =
       λ n h.
           (let inv = c.loop-i.invariant.1 n h in
           let e = masked_more 6 c.args.limits.now c.args.words.now n c.loop-i.left c.loop-i.place positive short inv.0 in
-          let f = c.in-ok-place.ensures.reads 6 in (cleared_below c.loop-i.left (2 ^ n) inv.0, search rules)),
+          let f = c.in_ok-place.ensures.reads 6 in (cleared_below c.loop-i.left (2 ^ n) inv.0, search rules)),
     )
 
 pub returns : goal.returns

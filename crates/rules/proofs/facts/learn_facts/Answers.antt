@@ -5,32 +5,32 @@ use Rattle.rules.proofs.FactsKnown.{facts_more, note_start, note_more, note_over
 use Rattle.rules.proofs.facts.learn_facts.Goals as goal
 
 pub loop-i-init : goal.loop-i-init
-loop-i-init g c = note_start g.D.Domain.ops c.args.words.now c.args.facts c.args.place (forms c.args.slots.now) c.none-known-known.result c.none-known-known.ensures c.requires.readable
+loop-i-init g c = note_start g.D.Domain.ops c.args.words.now c.args.facts c.args.place (forms c.args.slots.now) c.none_known-known.result c.none_known-known.ensures c.requires.readable
 
-pub work-out-fact-requires : goal.work-out-fact-requires
-work-out-fact-requires g c = record {
+pub work_out_fact-requires : goal.work_out_fact-requires
+work_out_fact-requires g c = record {
   readable = (facts_more c.args.words.now c.loop-i.at c.loop-i.i c.args.facts c.loop-i-test.true c.loop-i.invariant.readable).0;
   symbols = tt;
 }
 
-pub returns-in-err-fact : goal.returns-in-err-fact
-returns-in-err-fact g c =
-    let p = err_from_is_err_and c.from-residual.result c.from-residual.ensures.1 in
-    let v = note_over g.D.Domain.ops c.args.words.now c.args.facts c.args.place (forms c.args.slots.now) c.loop-i.i c.loop-i.at c.loop-i.known (forms c.loop-i.slots) c.loop-i.invariant c.loop-i-test.true c.in-err-fact.ensures.value in
+pub returns-in_err-fact : goal.returns-in_err-fact
+returns-in_err-fact g c =
+    let p = err_from_is_err_and c.from_residual.result c.from_residual.ensures.1 in
+    let v = note_over g.D.Domain.ops c.args.words.now c.args.facts c.args.place (forms c.args.slots.now) c.loop-i.i c.loop-i.at c.loop-i.known (forms c.loop-i.slots) c.loop-i.invariant c.loop-i-test.true c.in_err-fact.ensures.value in
     rw p.1 (record { known = v; kept = tt })
 
-pub overflow-add-at : goal.overflow-add-at
-overflow-add-at g c =
+pub overflow_add-at : goal.overflow_add-at
+overflow_add-at g c =
     let ws = c.args.words.now in
     let r = (facts_more ws c.loop-i.at c.loop-i.i c.args.facts c.loop-i-test.true c.loop-i.invariant.readable).0 in
-    let h : c.in-ok-fact.fact.end < length ws = subst (λ f. f.end < length ws) (sym c.in-ok-fact.ensures.kept.0) r.within in
+    let h : c.in_ok-fact.fact.end < length ws = subst (λ f. f.end < length ws) (sym c.in_ok-fact.ensures.kept.0) r.within in
     search rules
 
 pub loop-i-preserved : goal.loop-i-preserved
 loop-i-preserved g c =
-    let e = c.in-ok-fact.ensures in
+    let e = c.in_ok-fact.ensures in
     note_more g.D.Domain.ops c.args.words.now c.args.facts c.args.place (forms c.args.slots.now) c.loop-i.i c.loop-i.at c.loop-i.known (forms c.loop-i.slots) c.loop-i.invariant c.loop-i-test.true
-    c.in-ok-fact.fact (forms c.work-out-fact.new.slots) (forms c.learn.new.slots) c.learn.new.known e.value e.kept.0 e.kept.1 c.learn.ensures.known c.learn.ensures.count c.learn.ensures.kept
+    c.in_ok-fact.fact (forms c.work_out_fact.new.slots) (forms c.learn.new.slots) c.learn.new.known e.value e.kept.0 e.kept.1 c.learn.ensures.known c.learn.ensures.count c.learn.ensures.kept
 
 pub returns : goal.returns
 returns g c =

@@ -4,12 +4,12 @@ use Rattle.rules.specs.Expressions.{fact_cut}
 use Rattle.rules.proofs.FactSides.{second_over, both, both_kept}
 use Rattle.rules.proofs.facts.work_out_fact.Goals as goal
 
-pub returns-in-err-work-out-2 : goal.returns-in-err-work-out-2
-returns-in-err-work-out-2 g c =
+pub returns-in_err-work_out-2 : goal.returns-in_err-work_out-2
+returns-in_err-work_out-2 g c =
     let ws = c.args.words.now in
-    let e = c.in-ok-work-out.ensures in
-    let v = second_over g.D.Domain.ops c.args.symbols c.requires.symbols ws c.args.place c.fact-at-fact.result (fact_cut ws c.args.place) c.fact-at-fact.ensures.place (forms c.args.slots.now) (forms c.work-out.new.slots) e.kept e.value c.in-err-work-out-2.ensures.value in
-    let p = err_from_is_err_and c.from-residual-in-err-work-out-2.result c.from-residual-in-err-work-out-2.ensures.1 in
+    let e = c.in_ok-work_out.ensures in
+    let v = second_over g.D.Domain.ops c.args.symbols c.requires.symbols ws c.args.place c.fact_at-fact.result (fact_cut ws c.args.place) c.fact_at-fact.ensures.place (forms c.args.slots.now) (forms c.work_out.new.slots) e.kept e.value c.in_err-work_out-2.ensures.value in
+    let p = err_from_is_err_and c.from_residual-in_err-work_out-2.result c.from_residual-in_err-work_out-2.ensures.1 in
     rw p.1 (record { value = v; kept = tt })
 
 pub returns : goal.returns
@@ -18,12 +18,12 @@ returns g c =
     let ws = c.args.words.now in
     let at = c.args.place in
     let fs = forms c.args.slots.now in
-    let f₁ = forms c.work-out.new.slots in
-    let f₂ = forms c.work-out-2.new.slots in
-    let e = c.in-ok-work-out.ensures in
-    let f = c.in-ok-work-out-2.ensures in
-    let is = c.fact-at-fact.ensures.place in
+    let f₁ = forms c.work_out.new.slots in
+    let f₂ = forms c.work_out-2.new.slots in
+    let e = c.in_ok-work_out.ensures in
+    let f = c.in_ok-work_out-2.ensures in
+    let is = c.fact_at-fact.ensures.place in
     record {
-      value = both o c.args.symbols c.requires.symbols ws at c.fact-at-fact.result (fact_cut ws at) is fs f₁ e.kept e.value f₂ f.kept f.value;
-      kept = (is, both_kept o c.args.symbols c.requires.symbols ws at c.fact-at-fact.result (fact_cut ws at) is fs f₁ e.kept e.value f₂ f.kept);
+      value = both o c.args.symbols c.requires.symbols ws at c.fact_at-fact.result (fact_cut ws at) is fs f₁ e.kept e.value f₂ f.kept f.value;
+      kept = (is, both_kept o c.args.symbols c.requires.symbols ws at c.fact_at-fact.result (fact_cut ws at) is fs f₁ e.kept e.value f₂ f.kept);
     }

@@ -5,13 +5,13 @@ use Rattle.rules.specs.Seen.{symbols_seen}
 use Rattle.rules.proofs.Symbols.{symbol_item, symbol_expression}
 use Rattle.rules.proofs.registers.work_out_symbol.Goals as goal
 
-pub work-out-requires : goal.work-out-requires
-work-out-requires g c = record { expression = symbol_expression c.args.symbol c.requires.small; symbols = c.requires.symbols; slot = c.requires.slot }
+pub work_out-requires : goal.work_out-requires
+work_out-requires g c = record { expression = symbol_expression c.args.symbol c.requires.small; symbols = c.requires.symbols; slot = c.requires.slot }
 
 pub returns : goal.returns
 returns g c =
     let o = g.D.Domain.ops in
     record {
-      value = c.work-out.ensures.value ∙ ap (λ i. form_in_proposal o (symbols_seen o c.args.symbols (forms c.args.slots.now)) (i ∷ [])) (symbol_item c.args.symbol c.requires.small);
-      kept = c.work-out.ensures.kept;
+      value = c.work_out.ensures.value ∙ ap (λ i. form_in_proposal o (symbols_seen o c.args.symbols (forms c.args.slots.now)) (i ∷ [])) (symbol_item c.args.symbol c.requires.small);
+      kept = c.work_out.ensures.kept;
     }

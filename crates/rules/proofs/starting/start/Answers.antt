@@ -8,51 +8,51 @@ use Rattle.rules.proofs.PairParts.{kept_parts, found_first, found_second, found_
 use Rattle.rules.proofs.Begun.{first_over, second_over, all_begun, still_there, few_known}
 use Rattle.rules.proofs.starting.start.Goals as goal
 
-pub work-out-registers-requires : goal.work-out-registers-requires
-work-out-registers-requires g c =
+pub work_out_registers-requires : goal.work_out_registers-requires
+work_out_registers-requires g c =
     let k = c.args.counts in
     let ws = c.args.words.now in
     let parts = kept_parts k ws c.requires.fit c.requires.kept in
-    record { readable = (found_first k ws parts c.first-registers.result c.first-registers.ensures).1; group = omega (arith, c.requires.fit.registers₁) }
+    record { readable = (found_first k ws parts c.first_registers.result c.first_registers.ensures).1; group = omega (arith, c.requires.fit.registers₁) }
 
-pub returns-in-err-behind-first : goal.returns-in-err-behind-first
-returns-in-err-behind-first g c =
+pub returns-in_err-behind_first : goal.returns-in_err-behind_first
+returns-in_err-behind_first g c =
     let k = c.args.counts in
     let ws = c.args.words.now in
     let parts = kept_parts k ws c.requires.fit c.requires.kept in
-    let p = err_from_is_err_and c.from-residual.result c.from-residual.ensures.1 in
-    let v = first_over g.D.Domain.ops (kept_pair k ws) (registers_at ws k.one.registers c.first-registers.result) c.in-err-behind-first.ensures.values (found_first k ws parts c.first-registers.result c.first-registers.ensures).0 in
+    let p = err_from_is_err_and c.from_residual.result c.from_residual.ensures.1 in
+    let v = first_over g.D.Domain.ops (kept_pair k ws) (registers_at ws k.one.registers c.first_registers.result) c.in_err-behind_first.ensures.values (found_first k ws parts c.first_registers.result c.first_registers.ensures).0 in
     rw p.1 (record { starts = v; few = tt })
 
-pub work-out-registers-requires-2 : goal.work-out-registers-requires-2
-work-out-registers-requires-2 g c =
+pub work_out_registers-requires-2 : goal.work_out_registers-requires-2
+work_out_registers-requires-2 g c =
     let k = c.args.counts in
     let ws = c.args.words.now in
     let parts = kept_parts k ws c.requires.fit c.requires.kept in
-    let e = c.in-ok-behind-first.ensures in
-    record { readable = (found_second k ws parts c.first-registers.result c.first-registers.ensures c.in-ok-behind-first.behind-first e.kept.0 c.second-registers-from.result c.second-registers-from.ensures).1; group = omega (arith, c.requires.fit.registers₂) }
+    let e = c.in_ok-behind_first.ensures in
+    record { readable = (found_second k ws parts c.first_registers.result c.first_registers.ensures c.in_ok-behind_first.behind_first e.kept.0 c.second_registers-from.result c.second_registers-from.ensures).1; group = omega (arith, c.requires.fit.registers₂) }
 
-pub returns-in-err-behind-second : goal.returns-in-err-behind-second
-returns-in-err-behind-second g c =
+pub returns-in_err-behind_second : goal.returns-in_err-behind_second
+returns-in_err-behind_second g c =
     let k = c.args.counts in
     let ws = c.args.words.now in
     let parts = kept_parts k ws c.requires.fit c.requires.kept in
-    let e = c.in-ok-behind-first.ensures in
-    let rs₁ = c.first-registers.result in
-    let rs₂ = c.second-registers-from.result in
-    let p = err_from_is_err_and c.from-residual-in-err-behind-second.result c.from-residual-in-err-behind-second.ensures.1 in
-    let v = second_over g.D.Domain.ops (kept_pair k ws) (registers_at ws k.one.registers rs₁) (kept_seen (forms c.work-out-registers.new.slots) 0 k.one.registers) e.values (found_first k ws parts rs₁ c.first-registers.ensures).0
-    (registers_at ws k.two.registers rs₂) c.in-err-behind-second.ensures.values (found_second k ws parts rs₁ c.first-registers.ensures c.in-ok-behind-first.behind-first e.kept.0 rs₂ c.second-registers-from.ensures).0 in
+    let e = c.in_ok-behind_first.ensures in
+    let rs₁ = c.first_registers.result in
+    let rs₂ = c.second_registers-from.result in
+    let p = err_from_is_err_and c.from_residual-in_err-behind_second.result c.from_residual-in_err-behind_second.ensures.1 in
+    let v = second_over g.D.Domain.ops (kept_pair k ws) (registers_at ws k.one.registers rs₁) (kept_seen (forms c.work_out_registers.new.slots) 0 k.one.registers) e.values (found_first k ws parts rs₁ c.first_registers.ensures).0
+    (registers_at ws k.two.registers rs₂) c.in_err-behind_second.ensures.values (found_second k ws parts rs₁ c.first_registers.ensures c.in_ok-behind_first.behind_first e.kept.0 rs₂ c.second_registers-from.ensures).0 in
     rw p.1 (record { starts = v; few = tt })
 
-pub learn-facts-requires : goal.learn-facts-requires
-learn-facts-requires g c =
+pub learn_facts-requires : goal.learn_facts-requires
+learn_facts-requires g c =
     let k = c.args.counts in
     let ws = c.args.words.now in
     let parts = kept_parts k ws c.requires.fit c.requires.kept in
-    let e = c.in-ok-behind-first.ensures in
-    let f = c.in-ok-behind-second.ensures in
-    let found = found_facts k ws parts c.first-registers.result c.first-registers.ensures c.in-ok-behind-first.behind-first e.kept.0 c.second-registers-from.result c.second-registers-from.ensures c.in-ok-behind-second.behind-second f.kept.0 c.fact-count.result c.fact-count.ensures in
+    let e = c.in_ok-behind_first.ensures in
+    let f = c.in_ok-behind_second.ensures in
+    let found = found_facts k ws parts c.first_registers.result c.first_registers.ensures c.in_ok-behind_first.behind_first e.kept.0 c.second_registers-from.result c.second_registers-from.ensures c.in_ok-behind_second.behind_second f.kept.0 c.fact_count.result c.fact_count.ensures in
     record { readable = found.1; few = found.2 }
 
 pub returns : goal.returns
@@ -61,23 +61,23 @@ returns g c =
     let k = c.args.counts in
     let ws = c.args.words.now in
     let parts = kept_parts k ws c.requires.fit c.requires.kept in
-    let e = c.in-ok-behind-first.ensures in
-    let f = c.in-ok-behind-second.ensures in
-    let rs₁ = c.first-registers.result in
-    let rs₂ = c.second-registers-from.result in
-    let p = c.in-ok-behind-first.behind-first in
-    let q = c.in-ok-behind-second.behind-second in
-    let n = c.fact-count.result in
-    let f₁ = forms c.work-out-registers.new.slots in
-    let f₂ = forms c.work-out-registers-2.new.slots in
-    let f₃ = forms c.learn-facts.new.slots in
-    let first = found_first k ws parts rs₁ c.first-registers.ensures in
-    let second = found_second k ws parts rs₁ c.first-registers.ensures p e.kept.0 rs₂ c.second-registers-from.ensures in
-    let facts = found_facts k ws parts rs₁ c.first-registers.ensures p e.kept.0 rs₂ c.second-registers-from.ensures q f.kept.0 n c.fact-count.ensures in
-    let r = c.learn-facts.result in
+    let e = c.in_ok-behind_first.ensures in
+    let f = c.in_ok-behind_second.ensures in
+    let rs₁ = c.first_registers.result in
+    let rs₂ = c.second_registers-from.result in
+    let p = c.in_ok-behind_first.behind_first in
+    let q = c.in_ok-behind_second.behind_second in
+    let n = c.fact_count.result in
+    let f₁ = forms c.work_out_registers.new.slots in
+    let f₂ = forms c.work_out_registers-2.new.slots in
+    let f₃ = forms c.learn_facts.new.slots in
+    let first = found_first k ws parts rs₁ c.first_registers.ensures in
+    let second = found_second k ws parts rs₁ c.first_registers.ensures p e.kept.0 rs₂ c.second_registers-from.ensures in
+    let facts = found_facts k ws parts rs₁ c.first_registers.ensures p e.kept.0 rs₂ c.second_registers-from.ensures q f.kept.0 n c.fact_count.ensures in
+    let r = c.learn_facts.result in
     record {
       starts = all_begun o (kept_pair k ws) (registers_at ws k.one.registers rs₁) (kept_seen f₁ 0 k.one.registers) e.values first.0
           (registers_at ws k.two.registers rs₂) (kept_seen f₂ 16 k.two.registers) f.values second.0 (facts_at ws n q) facts.0
-          r k f₃ c.learn-facts.ensures.known (still_there k c.requires.fit f₁ f₂ f₃ f.kept.1 r (λ known. known.count ≡ n) c.learn-facts.ensures.kept);
-      few = few_known n f₂ f₃ facts.2 r c.learn-facts.ensures.kept;
+          r k f₃ c.learn_facts.ensures.known (still_there k c.requires.fit f₁ f₂ f₃ f.kept.1 r (λ known. known.count ≡ n) c.learn_facts.ensures.kept);
+      few = few_known n f₂ f₃ facts.2 r c.learn_facts.ensures.kept;
     }

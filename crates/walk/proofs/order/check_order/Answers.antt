@@ -4,14 +4,14 @@ use Rattle.walk.specs.Taking.{table_machine, allowed_target}
 use Rattle.walk.proofs.Ordered.{order_start, order_end, order_no_turn, order_reset, order_on, early, not_early}
 use Rattle.walk.proofs.order.check_order.Goals as goal
 
-pub returns-in-default : goal.returns-in-default
-returns-in-default c =
+pub returns-in_default : goal.returns-in_default
+returns-in_default c =
     let lt : c.loop-index.index < length c.args.path.now = omega arith in
     let e : None ≡ allowed_target (row_at (table_machine c.args.words.now) c.loop-index.state) (get_or c.args.path.now c.loop-index.index false) = search rules in
     order_no_turn c.args.words.now c.args.path.now c.args.start c.loop-index.index c.loop-index.state c.loop-index.invariant lt e
 
-pub returns-then-resets-early : goal.returns-then-resets-early
-returns-then-resets-early c =
+pub returns-then-resets_early : goal.returns-then-resets_early
+returns-then-resets_early c =
     let lt : c.loop-index.index < length c.args.path.now = omega arith in
     let e : Some c.in-Some.target ≡ allowed_target (row_at (table_machine c.args.words.now) c.loop-index.state) (get_or c.args.path.now c.loop-index.index false) = search rules in
     let h : true ≡ (eqb c.in-Some.target 0 && ltb (c.loop-index.index + 1) (length c.args.path.now)) = search rules in

@@ -8,6 +8,6 @@ use Rattle.walk.proofs.order.step_target.Goals as goal
 pub returns : goal.returns
 returns c =
     record {
-      target = c.target-of.ensures ∙ ap (λ x. allowed_target x c.args.turn) c.row-there.ensures.row;
-      there = target_there c.args.words.now (row_of (ahead c.row-there.result)) c.args.turn c.target-of.result c.row-there.ensures.targets c.target-of.ensures;
+      target = c.target_of.ensures ∙ ap (λ x. allowed_target x c.args.turn) c.row_there.ensures.row;
+      there = target_there c.args.words.now (row_of (ahead c.row_there.result)) c.args.turn c.target_of.result c.row_there.ensures.targets c.target_of.ensures;
     }

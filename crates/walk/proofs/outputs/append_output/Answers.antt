@@ -5,11 +5,11 @@ use Rattle.walk.proofs.outputs.append_output.Goals as goal
 
 pub returns : goal.returns
 returns g c =
-    let w = c.in-ok-work-out.ensures in
+    let w = c.in_ok-work_out.ensures in
     let p = c.args.outputs.now in
     let room : p.count < 16 = omega arith in
     let before = c.requires.side.before in
     record {
-      appended = appends_more p.ports (forms c.args.slots.now) (forms c.work-out.new.slots) c.args.side.outputs p.count c.args.port _ p.size room (omega arith) w.value w.kept;
+      appended = appends_more p.ports (forms c.args.slots.now) (forms c.work_out.new.slots) c.args.side.outputs p.count c.args.port _ p.size room (omega arith) w.value w.kept;
       kept = (room, w.kept);
     }

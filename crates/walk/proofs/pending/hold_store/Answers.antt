@@ -5,10 +5,10 @@ use Rattle.walk.proofs.pending.hold_store.Goals as goal
 
 pub returns : goal.returns
 returns g c =
-    let w = c.in-ok-work-out.ensures in
+    let w = c.in_ok-work_out.ensures in
     let p = c.args.pending.now in
     let fs = forms c.args.slots.now in
-    let fs' = forms c.work-out.new.slots in
+    let fs' = forms c.work_out.new.slots in
     record {
       held = waits_more p.targets fs fs' p.count c.args.register _ p.size c.requires.room w.value w.kept;
       count = refl;

@@ -5,7 +5,7 @@ use Rattle.walk.proofs.steps.row_there.Goals as goal
 pub returns : goal.returns
 returns c =
     let words = c.args.words.now in
-    let e = row_read words c.args.state c.requires.table c.requires.state c.row-of.result c.unwrap.result c.unwrap.ensures (c.row-of.ensures.encodes (table_machine words) c.requires.table) in
+    let e = row_read words c.args.state c.requires.table c.requires.state c.row_of.result c.unwrap.result c.unwrap.ensures (c.row_of.ensures.encodes (table_machine words) c.requires.table) in
     record {
       row = e;
       readable = row_readable words c.args.state c.requires.table c.requires.state _ e;

@@ -10,28 +10,28 @@ use Rattle.walk.proofs.taking.hold_actions.Goals as goal
 
 pub loop-part-preserved-in-Continue· : goal.loop-part-preserved-in-Continue·
 loop-part-preserved-in-Continue· g c =
-    let e = c.in-ok-hold-store.ensures in
-    let is : transition_of (ahead c.loop-part.row) ≡ acting (store c.in-Store.register (map item_of c.in-Store.value.now)) (transition_of (ahead c.next-part.new.self)) = search rules in
-    after_store g.D.Domain.ops c.args.side c.requires.side (forms c.args.slots.now) _ _ _ (forms c.loop-part.slots) _ _ _ _ c.loop-part.invariant _ _ is (forms c.hold-store.new.slots) c.hold-store.new.pending e.held e.count e.kept
+    let e = c.in_ok-hold_store.ensures in
+    let is : transition_of (ahead c.loop-part.row) ≡ acting (store c.in-Store.register (map item_of c.in-Store.value.now)) (transition_of (ahead c.next_part.new.self)) = search rules in
+    after_store g.D.Domain.ops c.args.side c.requires.side (forms c.args.slots.now) _ _ _ (forms c.loop-part.slots) _ _ _ _ c.loop-part.invariant _ _ is (forms c.hold_store.new.slots) c.hold_store.new.pending e.held e.count e.kept
 
-pub returns-in-err-hold-store : goal.returns-in-err-hold-store
-returns-in-err-hold-store g c =
-    let e = c.in-err-hold-store.ensures in
-    let is : transition_of (ahead c.loop-part.row) ≡ acting (store c.in-Store.register (map item_of c.in-Store.value.now)) (transition_of (ahead c.next-part.new.self)) = search rules in
-    let p = err_from_is_err_and c.from-residual.result c.from-residual.ensures.1 in
+pub returns-in_err-hold_store : goal.returns-in_err-hold_store
+returns-in_err-hold_store g c =
+    let e = c.in_err-hold_store.ensures in
+    let is : transition_of (ahead c.loop-part.row) ≡ acting (store c.in-Store.register (map item_of c.in-Store.value.now)) (transition_of (ahead c.next_part.new.self)) = search rules in
+    let p = err_from_is_err_and c.from_residual.result c.from_residual.ensures.1 in
     let n = over_store g.D.Domain.ops c.args.side c.requires.side (forms c.args.slots.now) _ _ _ (forms c.loop-part.slots) _ _ _ _ c.loop-part.invariant _ _ is e.held in
     rw p.1 (record { held = n; target = tt; kept = tt })
 
 pub loop-part-preserved-in-Continue·-branch-2 : goal.loop-part-preserved-in-Continue·-branch-2
 loop-part-preserved-in-Continue·-branch-2 g c =
-    let e = c.in-ok-append-output.ensures in
-    let is : transition_of (ahead c.loop-part.row) ≡ acting (emit c.in-Emit.port (map item_of c.in-Emit.value.now)) (transition_of (ahead c.next-part.new.self)) = search rules in
-    after_emit g.D.Domain.ops c.args.side c.requires.side (forms c.args.slots.now) _ _ _ (forms c.loop-part.slots) _ _ _ _ c.loop-part.invariant _ _ is (forms c.append-output.new.slots) c.append-output.new.outputs e.appended e.kept
+    let e = c.in_ok-append_output.ensures in
+    let is : transition_of (ahead c.loop-part.row) ≡ acting (emit c.in-Emit.port (map item_of c.in-Emit.value.now)) (transition_of (ahead c.next_part.new.self)) = search rules in
+    after_emit g.D.Domain.ops c.args.side c.requires.side (forms c.args.slots.now) _ _ _ (forms c.loop-part.slots) _ _ _ _ c.loop-part.invariant _ _ is (forms c.append_output.new.slots) c.append_output.new.outputs e.appended e.kept
 
-pub returns-in-err-append-output : goal.returns-in-err-append-output
-returns-in-err-append-output g c =
-    let e = c.in-err-append-output.ensures in
-    let is : transition_of (ahead c.loop-part.row) ≡ acting (emit c.in-Emit.port (map item_of c.in-Emit.value.now)) (transition_of (ahead c.next-part.new.self)) = search rules in
-    let p = err_from_is_err_and c.from-residual-in-err-append-output.result c.from-residual-in-err-append-output.ensures.1 in
+pub returns-in_err-append_output : goal.returns-in_err-append_output
+returns-in_err-append_output g c =
+    let e = c.in_err-append_output.ensures in
+    let is : transition_of (ahead c.loop-part.row) ≡ acting (emit c.in-Emit.port (map item_of c.in-Emit.value.now)) (transition_of (ahead c.next_part.new.self)) = search rules in
+    let p = err_from_is_err_and c.from_residual-in_err-append_output.result c.from_residual-in_err-append_output.ensures.1 in
     let n = over_emit g.D.Domain.ops c.args.side c.requires.side (forms c.args.slots.now) _ _ _ (forms c.loop-part.slots) _ _ _ _ c.loop-part.invariant _ _ is e.appended in
     rw p.1 (record { held = n; target = tt; kept = tt })

@@ -5,13 +5,13 @@ use Rattle.walk.proofs.taking.take_transition.Goals as goal
 
 pub returns : goal.returns
 returns g c =
-    let e = c.in-ok-state.ensures in
+    let e = c.in_ok-state.ensures in
     let k = c.commit.ensures in
     let base = forms c.args.slots.now in
-    let fs = forms c.hold-actions.new.slots in
+    let fs = forms c.hold_actions.new.slots in
     let fs' = forms c.commit.new.slots in
     record {
-      acted = ap Some (made g.D.Domain.ops c.args.side c.requires.side base fs fs' c.hold-actions.new.pending c.hold-actions.new.outputs e.kept k.kept k.stored) ∙ e.held;
+      acted = ap Some (made g.D.Domain.ops c.args.side c.requires.side base fs fs' c.hold_actions.new.pending c.hold_actions.new.outputs e.kept k.kept k.stored) ∙ e.held;
       target = e.target;
-      kept = made_apart g.D.Domain.ops c.args.side c.requires.side base fs fs' c.hold-actions.new.pending c.hold-actions.new.outputs e.kept k.kept;
+      kept = made_apart g.D.Domain.ops c.args.side c.requires.side base fs fs' c.hold_actions.new.pending c.hold_actions.new.outputs e.kept k.kept;
     }

@@ -10,33 +10,33 @@ pub loop-w-init : goal.loop-w-init
 loop-w-init g c = started _ _ _ c.requires.expression
 
 pub apply-requires : goal.apply-requires
-apply-requires g c = record { stands = stands _ _ _ _ _ _ c.loop-w.invariant c.loop-w-test.true _ c.item-of-item.ensures; leaves = c.requires.leaves }
+apply-requires g c = record { stands = stands _ _ _ _ _ _ c.loop-w.invariant c.loop-w-test.true _ c.item_of-item.ensures; leaves = c.requires.leaves }
 
-pub overflow-sub-depth : goal.overflow-sub-depth
-overflow-sub-depth g c = let h = stands _ _ _ _ _ _ c.loop-w.invariant c.loop-w-test.true _ c.item-of-item.ensures in omega (arith, h.values, c.taken.ensures)
+pub overflow_sub-depth : goal.overflow_sub-depth
+overflow_sub-depth g c = let h = stands _ _ _ _ _ _ c.loop-w.invariant c.loop-w-test.true _ c.item_of-item.ensures in omega (arith, h.values, c.taken.ensures)
 
-pub overflow-add-depth : goal.overflow-add-depth
-overflow-add-depth g c = let h = stands _ _ _ _ _ _ c.loop-w.invariant c.loop-w-test.true _ c.item-of-item.ensures in let d : c.loop-w.depth - c.taken.result + 1 ≤ 9 = omega (arith, h.deep) in search rules
+pub overflow_add-depth : goal.overflow_add-depth
+overflow_add-depth g c = let h = stands _ _ _ _ _ _ c.loop-w.invariant c.loop-w-test.true _ c.item_of-item.ensures in let d : c.loop-w.depth - c.taken.result + 1 ≤ 9 = omega (arith, h.deep) in search rules
 
 pub loop-w-preserved : goal.loop-w-preserved
 loop-w-preserved g c =
     let o = g.D.Domain.ops in
     let fs = forms c.loop-w.slots in
     let inv = c.loop-w.invariant in
-    let e = c.in-ok-apply.ensures in
-    let s = e.stack ∙ ap (λ f. step (reading o c.args.leaves f) c.item-of-item.result (stack c.loop-w.depth fs)) (named_kept _ _ _ _ _ _ inv) in
-    let w = went _ _ _ _ _ _ inv c.loop-w-test.true c.item-of-item.result (forms c.apply.new.slots) c.item-of-item.ensures e.kept s in
+    let e = c.in_ok-apply.ensures in
+    let s = e.stack ∙ ap (λ f. step (reading o c.args.leaves f) c.item_of-item.result (stack c.loop-w.depth fs)) (named_kept _ _ _ _ _ _ inv) in
+    let w = went _ _ _ _ _ _ inv c.loop-w-test.true c.item_of-item.result (forms c.apply.new.slots) c.item_of-item.ensures e.kept s in
     rw c.taken.ensures w
 
-pub returns-in-err-apply : goal.returns-in-err-apply
-returns-in-err-apply g c =
+pub returns-in_err-apply : goal.returns-in_err-apply
+returns-in_err-apply g c =
     let o = g.D.Domain.ops in
     let fs = forms c.loop-w.slots in
     let inv = c.loop-w.invariant in
-    let e = c.in-err-apply.ensures in
-    let s = e.stack ∙ ap (λ f. step (reading o c.args.leaves f) c.item-of-item.result (stack c.loop-w.depth fs)) (named_kept _ _ _ _ _ _ inv) in
-    let v = failed _ _ _ _ _ _ inv c.loop-w-test.true c.item-of-item.result c.item-of-item.ensures s in
-    let p = err_from_is_err_and c.from-residual.result c.from-residual.ensures.1 in
+    let e = c.in_err-apply.ensures in
+    let s = e.stack ∙ ap (λ f. step (reading o c.args.leaves f) c.item_of-item.result (stack c.loop-w.depth fs)) (named_kept _ _ _ _ _ _ inv) in
+    let v = failed _ _ _ _ _ _ inv c.loop-w-test.true c.item_of-item.result c.item_of-item.ensures s in
+    let p = err_from_is_err_and c.from_residual.result c.from_residual.ensures.1 in
     rw p.1 (record { kept = refl; value = v })
 
 pub returns : goal.returns

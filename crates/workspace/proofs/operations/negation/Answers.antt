@@ -7,8 +7,8 @@ use Rattle.workspace.specs.Slots.{slots, place, Ready, give}
 use Rattle.workspace.proofs.Steps.{length_inside, form_at, place_within, ready_kept, forms_kept, given, give_over, give_fits, settled, given_none, given_one, short, made_within, length_negation, length_product}
 use Rattle.workspace.proofs.operations.negation.Goals as goal
 
-pub place-at-requires : goal.place-at-requires
-place-at-requires g c =
+pub place_at-requires : goal.place_at-requires
+place_at-requires g c =
     let o = g.D.Domain.ops in
     let ns = c.args.lens.now.of in
     let xs = c.args.row.now in
@@ -34,6 +34,6 @@ returns g c =
     let a = form_at ns xs c.args.a c.span-p.result c.requires.ready (omega arith) c.span-p.ensures in
     let k = forms_kept ns xs c.negate-s.new.row c.requires.ready p.kept in
     record {
-      ready = c.place-at.ensures.ready;
-      forms = c.place-at.ensures.forms ∙ ap (λ f. set f c.args.to (part c.negate-s.result c.negate-s.new.row)) k ∙ ap (set (slots ns xs) c.args.to) (p.is ∙ ap (negation o) a);
+      ready = c.place_at.ensures.ready;
+      forms = c.place_at.ensures.forms ∙ ap (λ f. set f c.args.to (part c.negate-s.result c.negate-s.new.row)) k ∙ ap (set (slots ns xs) c.args.to) (p.is ∙ ap (negation o) a);
     }

@@ -8,18 +8,18 @@ use Rattle.workspace.specs.Slots.{slots, place, Ready, give}
 use Rattle.workspace.proofs.Steps.{length_inside, form_at, place_within, ready_kept, forms_kept, given, give_over, give_fits, settled, given_none, given_one, short, made_within, length_negation, length_product}
 use Rattle.workspace.proofs.operations.product.Goals as goal
 
-pub overflow-add-degree-at : goal.overflow-add-degree-at
-overflow-add-degree-at g c = omega (arith, k_is, c.degree-at.ensures.few, c.degree-at-2.ensures.few)
+pub overflow_add-degree_at : goal.overflow_add-degree_at
+overflow_add-degree_at g c = omega (arith, k_is, c.degree_at.ensures.few, c.degree_at-2.ensures.few)
 
-pub returns-then-degree-at-gt-HIGHEST : goal.returns-then-degree-at-gt-HIGHEST
-returns-then-degree-at-gt-HIGHEST g c =
+pub returns-then-degree_at-gt-HIGHEST : goal.returns-then-degree_at-gt-HIGHEST
+returns-then-degree_at-gt-HIGHEST g c =
     let o = g.D.Domain.ops in
     let ns = c.args.lens.now.of in
     let xs = c.args.row.now in
     let a = form_at ns xs c.args.a c.span-p.result c.requires.ready (omega arith) c.span-p.ensures in
     let b = form_at ns xs c.args.b c.span-q.result c.requires.ready (omega arith) c.span-q.ensures in
-    let da = c.degree-at.ensures.top ∙ ap top a in
-    let db = c.degree-at-2.ensures.top ∙ ap top b in
+    let da = c.degree_at.ensures.top ∙ ap top a in
+    let db = c.degree_at-2.ensures.top ∙ ap top b in
     let P = get_or (slots ns xs) c.args.a [] in
     let Q = get_or (slots ns xs) c.args.b [] in
     let k = k_is in
@@ -49,8 +49,8 @@ returns g c =
     let xs = c.args.row.now in
     let a = form_at ns xs c.args.a c.span-p.result c.requires.ready (omega arith) c.span-p.ensures in
     let b = form_at ns xs c.args.b c.span-q.result c.requires.ready (omega arith) c.span-q.ensures in
-    let da = c.degree-at.ensures.top ∙ ap top a in
-    let db = c.degree-at-2.ensures.top ∙ ap top b in
+    let da = c.degree_at.ensures.top ∙ ap top a in
+    let db = c.degree_at-2.ensures.top ∙ ap top b in
     let F = slots ns xs in
     let k = k_is in
     record {

@@ -12,4 +12,4 @@ returns g c =
     let p = form_at ns xs c.args.a c.span.result c.requires.ready (omega arith) c.span.ensures in
     let q = form_at ns xs c.args.b c.span-2.result c.requires.ready (omega arith) c.span-2.ensures in
     let o = g.D.Domain.ops in
-    c.same-parts.ensures ∙ ap (λ x. same_form o x (part c.span-2.result xs)) p ∙ ap (same_form o (get_or (slots ns xs) c.args.a [])) q
+    c.same_parts.ensures ∙ ap (λ x. same_form o x (part c.span-2.result xs)) p ∙ ap (same_form o (get_or (slots ns xs) c.args.a [])) q

@@ -12,4 +12,4 @@ returns-then-s-gt-LIMIT g c =
 pub returns : goal.returns
 returns g c =
     let n = length_inside c.args.s c.args.row.now c.requires.s in
-    record { ready = c.place-at.ensures.ready; forms = ap Some c.place-at.ensures.forms ∙ give_fits c.args.k (part c.args.s c.args.row.now) (slots c.args.lens.now.of c.args.row.now) (omega arith) }
+    record { ready = c.place_at.ensures.ready; forms = ap Some c.place_at.ensures.forms ∙ give_fits c.args.k (part c.args.s c.args.row.now) (slots c.args.lens.now.of c.args.row.now) (omega arith) }

@@ -11,31 +11,31 @@ use Rattle.workspace.proofs.Evaluating.{accepted, refused}
 use Rattle.workspace.proofs.Comparing.{compared_first, compared_second, compared_both, first_kept, left_of, right_of}
 use Rattle.workspace.proofs.workspace.compare_forms.Goals as goal
 
-pub returns-in-err-evaluate-into : goal.returns-in-err-evaluate-into
-returns-in-err-evaluate-into g c =
+pub returns-in_err-evaluate_into : goal.returns-in_err-evaluate_into
+returns-in_err-evaluate_into g c =
     let o = g.D.Domain.ops in
     let f0 = forms c.args.slots.now in
     let alg = reading o c.args.leaves (named f0) in
     let m = meaning alg (map item_of c.args.left.now) in
     let n = meaning alg (map item_of c.args.right.now) in
-    let b = refused m (take 154 f0) 152 c.in-err-evaluate-into.ensures.forms in
-    let p = err_from_is_err_and c.from-residual.result c.from-residual.ensures.1 in
+    let b = refused m (take 154 f0) 152 c.in_err-evaluate_into.ensures.forms in
+    let p = err_from_is_err_and c.from_residual.result c.from_residual.ensures.1 in
     rw p.1 (record { kept = refl; answer = sym (compared_first o m n b) })
 
-pub returns-in-err-evaluate-into-2 : goal.returns-in-err-evaluate-into-2
-returns-in-err-evaluate-into-2 g c =
+pub returns-in_err-evaluate_into-2 : goal.returns-in_err-evaluate_into-2
+returns-in_err-evaluate_into-2 g c =
     let o = g.D.Domain.ops in
     let l = c.args.leaves in
     let f0 = forms c.args.slots.now in
-    let f1 = forms c.evaluate-into.new.slots in
-    let e1 = c.in-ok-evaluate-into.ensures in
+    let f1 = forms c.evaluate_into.new.slots in
+    let e1 = c.in_ok-evaluate_into.ensures in
     let m = meaning (reading o l (named f0)) (map item_of c.args.left.now) in
     let n = meaning (reading o l (named f0)) (map item_of c.args.right.now) in
     let a = accepted m (take 154 f0) (take 154 f1) 152 e1.forms in
     let k = first_kept 144 f0 f1 152 a.0 (omega arith) (omega arith) a.1.1 in
-    let e2 = c.in-err-evaluate-into-2.ensures in
+    let e2 = c.in_err-evaluate_into-2.ensures in
     let b = refused n (take 154 f1) 153 (e2.forms ∙ ap (λ f. give 153 (meaning (reading o l f) (map item_of c.args.right.now)) (take 154 f1)) k) in
-    let p = err_from_is_err_and c.from-residual-in-err-evaluate-into-2.result c.from-residual-in-err-evaluate-into-2.ensures.1 in
+    let p = err_from_is_err_and c.from_residual-in_err-evaluate_into-2.result c.from_residual-in_err-evaluate_into-2.ensures.1 in
     rw p.1 (record { kept = refl; answer = sym (compared_second o m n b) })
 
 pub returns : goal.returns
@@ -43,17 +43,17 @@ returns g c =
     let o = g.D.Domain.ops in
     let l = c.args.leaves in
     let f0 = forms c.args.slots.now in
-    let f1 = forms c.evaluate-into.new.slots in
-    let f2 = forms c.evaluate-into-2.new.slots in
-    let e1 = c.in-ok-evaluate-into.ensures in
+    let f1 = forms c.evaluate_into.new.slots in
+    let f2 = forms c.evaluate_into-2.new.slots in
+    let e1 = c.in_ok-evaluate_into.ensures in
     let m = meaning (reading o l (named f0)) (map item_of c.args.left.now) in
     let n = meaning (reading o l (named f0)) (map item_of c.args.right.now) in
     let a = accepted m (take 154 f0) (take 154 f1) 152 e1.forms in
     let k = first_kept 144 f0 f1 152 a.0 (omega arith) (omega arith) a.1.1 in
-    let e2 = c.in-ok-evaluate-into-2.ensures in
+    let e2 = c.in_ok-evaluate_into-2.ensures in
     let b = accepted n (take 154 f1) (take 154 f2) 153 (e2.forms ∙ ap (λ f. give 153 (meaning (reading o l f) (map item_of c.args.right.now)) (take 154 f1)) k) in
     let n0 = length_slots c.args.slots.now.lens.of c.args.slots.now.row.now ∙ c.args.slots.now.count in
-    let n1 = length_slots c.evaluate-into.new.slots.lens.of c.evaluate-into.new.slots.row.now ∙ c.evaluate-into.new.slots.count in
+    let n1 = length_slots c.evaluate_into.new.slots.lens.of c.evaluate_into.new.slots.row.now ∙ c.evaluate_into.new.slots.count in
     let p = left_of [] f0 f1 f2 a.0 b.0 n0 a.1.1 b.1.1 in
     let q = right_of [] f1 f2 b.0 n1 b.1.1 in
     record {

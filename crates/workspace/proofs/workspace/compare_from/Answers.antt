@@ -9,23 +9,23 @@ use Rattle.workspace.proofs.Laws.{ready_empty}
 use Rattle.workspace.proofs.Comparing.{own_compared, judged}
 use Rattle.workspace.proofs.workspace.compare_from.Goals as goal
 
-pub invariant-of-slots : goal.invariant-of-slots
-invariant-of-slots g c =
+pub invariant_of-slots : goal.invariant_of-slots
+invariant_of-slots g c =
     let r = ready_empty c.empty.result.of (take (length c.args.row.now - c.args.at) (drop c.args.at c.args.row.now)) c.empty.ensures (simp (length-take, length-drop) (omega arith)) in
     (r.count, (r.few, (r.room, tt)))
 
 legal : Legal own_leaves
 legal = record { registers = omega arith; symbols = tt }
 
-pub compare-forms-requires : goal.compare-forms-requires
-compare-forms-requires g c = record { leaves = rw c.own.ensures legal; left = c.requires.left; right = c.requires.right }
+pub compare_forms-requires : goal.compare_forms-requires
+compare_forms-requires g c = record { leaves = rw c.own.ensures legal; left = c.requires.left; right = c.requires.right }
 
 pub returns : goal.returns
 returns g c =
-    let answer = c.compare-forms.ensures.answer ∙ own_compared g.D.Domain.ops _ _ _ _ c.own.ensures in
+    let answer = c.compare_forms.ensures.answer ∙ own_compared g.D.Domain.ops _ _ _ _ c.own.ensures in
     record {
       kept = search (rules, overwrites);
       long = search (rules, overwrites);
       answer = answer;
-      polynomials = judged g.met.D.Domain.ring (map item_of c.args.left.now) (map item_of c.args.right.now) c.compare-forms.result answer;
+      polynomials = judged g.met.D.Domain.ring (map item_of c.args.left.now) (map item_of c.args.right.now) c.compare_forms.result answer;
     }

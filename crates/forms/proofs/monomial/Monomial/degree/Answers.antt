@@ -8,9 +8,9 @@ pub loop-left-init : goal.loop-left-init
 unfolding K
 loop-left-init c = (omega arith, omega arith)
 
-pub overflow-add-count : goal.overflow-add-count
+pub overflow_add-count : goal.overflow_add-count
 unfolding K
-overflow-add-count c = omega (arith, c.loop-left.invariant.1)
+overflow_add-count c = omega (arith, c.loop-left.invariant.1)
 
 pub loop-left-preserved : goal.loop-left-preserved
 unfolding K

@@ -24,17 +24,17 @@ fits-r c =
     let b = pow_up (4 - (l.left - 1)) 4 (omega arith) in
     omega arith
 
-pub overflow-mul-out : goal.overflow-mul-out
-overflow-mul-out c = omega (arith, fits-l c)
+pub overflow_mul-out : goal.overflow_mul-out
+overflow_mul-out c = omega (arith, fits-l c)
 
-pub overflow-add-out : goal.overflow-add-out
-overflow-add-out c = omega (arith, fits-l c)
+pub overflow_add-out : goal.overflow_add-out
+overflow_add-out c = omega (arith, fits-l c)
 
-pub overflow-mul-out-else-d-c : goal.overflow-mul-out-else-d-c
-overflow-mul-out-else-d-c c = omega (arith, fits-r c)
+pub overflow_mul-out-else-d-c : goal.overflow_mul-out-else-d-c
+overflow_mul-out-else-d-c c = omega (arith, fits-r c)
 
-pub overflow-add-out-else-d-c : goal.overflow-add-out-else-d-c
-overflow-add-out-else-d-c c = omega (arith, fits-r c)
+pub overflow_add-out-else-d-c : goal.overflow_add-out-else-d-c
+overflow_add-out-else-d-c c = omega (arith, fits-r c)
 
 pub loop-left-preserved : goal.loop-left-preserved
 unfolding K

@@ -3,8 +3,8 @@ use Rattle.workspace.specs.Slots.{slots}
 use Rattle.workspace.proofs.Laws.{ready_empty, slots_empty}
 use Rattle.workspace.proofs.slots.Slots.empty.Goals as goal
 
-pub invariant-of-result : goal.invariant-of-result
-invariant-of-result g c =
+pub invariant_of-result : goal.invariant_of-result
+invariant_of-result g c =
     let r = ready_empty c.empty.result.of c.args.row.now c.empty.ensures c.requires in
     (r.count, (r.few, (r.room, tt)))
 
