@@ -163,8 +163,8 @@ module _ (k : ℕ) where
       let lL = times_length X.codes V.codes in
       let lR = times_length X.codes W.codes in
       let b = pack_order k 40 L R (omega arith) (times_codes 40 X.codes V.codes X.falls V.falls) (times_codes 40 X.codes W.codes X.falls W.falls) (omega arith) (omega arith) in
-      Rattle.std.proofs.lemmas.Bool.ltb_true (times_word k x v) (times_word k x w)
-      (ap₂ lib.Dec.ltb (times_packed x v X V h) (times_packed x w X W h') ∙ b ∙ times_rises X.codes V.codes W.codes ∙ sym a ∙ sym (ap₂ lib.Dec.ltb V.packs W.packs) ∙ Rattle.std.proofs.lemmas.Bool.lt_ltb v w l)
+      Rattle.std.proofs.lemmas.Bool.ltb-true (times_word k x v) (times_word k x w)
+      (ap₂ lib.Dec.ltb (times_packed x v X V h) (times_packed x w X W h') ∙ b ∙ times_rises X.codes V.codes W.codes ∙ sym a ∙ sym (ap₂ lib.Dec.ltb V.packs W.packs) ∙ Rattle.std.proofs.lemmas.Bool.lt-ltb v w l)
 
 pub degree_packed : (m : Monomial) (X : Packed K m.0) → degree m ≡ length X.codes
 unfolding degree

@@ -41,8 +41,8 @@ unfolding K
 loop-left-preserved c =
     let l = c.loop-left in
     elim c.if-d-c.branch [
-      | then-d-c w ↦ simp (w.x-is, w.y-is, w.out_is) (sym (merged_left 4 l.left l.x l.y l.out c.loop-left-test.true w.if-d-c.true) ∙ l.invariant.0, digit_more 4 l.left l.out (l.x / 16777216) c.loop-left-test.true l.invariant.2 l.invariant.1 (omega (arith, l.invariant.3, l.invariant.4)), omega (arith, l.invariant.2), omega (arith, l.invariant.3), omega (arith, l.invariant.4))
-      | else-d-c w ↦ simp (w.x-is, w.y-is, w.out_is) (sym (merged_right 4 l.left l.x l.y l.out c.loop-left-test.true w.if-d-c.false) ∙ l.invariant.0, digit_more 4 l.left l.out (l.y / 16777216) c.loop-left-test.true l.invariant.2 l.invariant.1 (omega (arith, l.invariant.3, l.invariant.4)), omega (arith, l.invariant.2), omega (arith, l.invariant.3), omega (arith, l.invariant.4))
+      | then-d-c w ↦ simp (w.x-is, w.y-is, w.out-is) (sym (merged_left 4 l.left l.x l.y l.out c.loop-left-test.true w.if-d-c.true) ∙ l.invariant.0, digit_more 4 l.left l.out (l.x / 16777216) c.loop-left-test.true l.invariant.2 l.invariant.1 (omega (arith, l.invariant.3, l.invariant.4)), omega (arith, l.invariant.2), omega (arith, l.invariant.3), omega (arith, l.invariant.4))
+      | else-d-c w ↦ simp (w.x-is, w.y-is, w.out-is) (sym (merged_right 4 l.left l.x l.y l.out c.loop-left-test.true w.if-d-c.false) ∙ l.invariant.0, digit_more 4 l.left l.out (l.y / 16777216) c.loop-left-test.true l.invariant.2 l.invariant.1 (omega (arith, l.invariant.3, l.invariant.4)), omega (arith, l.invariant.2), omega (arith, l.invariant.3), omega (arith, l.invariant.4))
     ]
 
 at_end : (k r x y out : ℕ) → r ≤ 0 → merged_codes k r x y out ≡ out
