@@ -143,7 +143,7 @@ returns-in-Own g c =
     let n = length_slots k0.lens.of k0.row.now ∙ k0.count in
     let e = c.in-Symbol.is in
     let t : takes i ≡ 0 = ap takes e in
-    let p = leafed c.symbol.result alg i d fs (forms c.symbol.new.self) (Forms.symbol-form o c.in-Symbol.n) n t (λ s. ap (λ j. step alg j s) e ∙ ap (λ m. pushed (symbol_forms o (named fs) m c.in-Symbol.n) s) c.in-Own.is) h.room c.symbol.ensures.forms in
+    let p = leafed c.symbol.result alg i d fs (forms c.symbol.new.self) (Forms.symbol_form o c.in-Symbol.n) n t (λ s. ap (λ j. step alg j s) e ∙ ap (λ m. pushed (symbol_forms o (named fs) m c.in-Symbol.n) s) c.in-Own.is) h.room c.symbol.ensures.forms in
     record { kept = p.1; stack = p.0 }
 
 pub returns-in-Kept : goal.returns-in-Kept

@@ -12,7 +12,7 @@ use Rattle.workspace.proofs.workspace.compare_from.Goals as goal
 pub invariant_of-slots : goal.invariant_of-slots
 invariant_of-slots g c =
     let r = ready_empty c.empty.result.of (take (length c.args.row.now - c.args.at) (drop c.args.at c.args.row.now)) c.empty.ensures (simp (length-take, length-drop) (omega arith)) in
-    (r.count, (r.few, (r.room, tt)))
+    record { count = r.count; few = r.few; room = r.room }
 
 legal : Legal own_leaves
 legal = record { registers = omega arith; symbols = tt }
