@@ -268,9 +268,9 @@ module _ {D : Type 0} (o : Ops D) (laws : Laws o) (theory : Theory o) where
       opened = refl;
       others₁ = λ p positive within. absurd (omega arith);
       others₂ = λ p positive within. absurd (omega arith);
-      valid = λ c filed. absurd (Memᴰ.not_nil filed);
+      valid = λ c filed. absurd (Memᴰ.not-nil filed);
     };
-    short = λ c filed. absurd (Memᴰ.not_nil filed);
+    short = λ c filed. absurd (Memᴰ.not-nil filed);
     is₁ = refl;
     is₂ = refl;
     is_shared = refl;

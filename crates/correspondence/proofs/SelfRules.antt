@@ -57,7 +57,7 @@ nth_beyond (x ∷ xs) zero h = absurd (omega arith)
 nth_beyond (x ∷ xs) (suc i) h = nth_beyond xs i (omega arith)
 
 eqb_suc : (i r : ℕ) → eqb (suc i) (suc r) ≡ eqb i r
-eqb_suc i r = ap compare_is_eq (compare.suc_suc i r)
+eqb_suc i r = ap compare_is_eq (compare.suc-suc i r)
 
 nth_set : {A : Type 0} (xs : List A) (r i : ℕ) (y : A) → r < length xs → nth (set xs r y) i ≡ cond (eqb i r) (Some y) (nth xs i)
 nth_set [] r i y h = absurd (omega arith)

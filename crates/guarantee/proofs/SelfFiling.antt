@@ -375,7 +375,7 @@ module _ {D : Type 0} (o : Ops D) (theory : Theory o) (m : Machine) (sound : Sou
   claims_last : NoneOver o m → (ps : List Pair) (words : ℕ) → Paired R states ps → Good (book ps [] words) (self_claims R 0 m.rows)
   claims_last none_over ps words paired = record {
     left = book ps (own 0 m.rows) words;
-    clean = claims_filed ps words paired m.rows [] 0 [] refl refl (record { few = omega arith; starts = λ c k. absurd (Memᴰ.not_nil k) }) none_over sound.rows_stand;
+    clean = claims_filed ps words paired m.rows [] 0 [] refl refl (record { few = omega arith; starts = λ c k. absurd (Memᴰ.not-nil k) }) none_over sound.rows_stand;
     covered = all_covered ps words paired;
   }
 
