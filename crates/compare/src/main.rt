@@ -1,4 +1,6 @@
 // Reads a file of a comparison from standard input and prints a line for each of its records: the counts or the refusal of a table.
+#![tactic(auto)]
+
 use anyhow::anyhow;
 use machine::table::read_table;
 use records::file::{File, FileFault, Part, Values};

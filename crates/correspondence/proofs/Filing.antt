@@ -1,24 +1,24 @@
 -- What filing keeps: every comparison that a history comes to is sound, and its filed paths are short.
-use Rattle.std.proofs.Common.{◌≡◌, ℕ, zero, suc, ◌+◌, ◌-◌, ◌/◌, ◌%◌, ◌^◌, ◌<◌, ◌≤◌, Bool, true, false, cond, not, ◌&&◌, ◌||◌, eqb, ltb, leb, ◌≢◌, ◌⊎◌, List, [], ◌∷◌, ◌++◌, map, length, get_or, Some, None, Option, sym, refl, ap, ◌∙◌, subst, ap₂, subst₂, inl, inr, arith, length-append}
+use Rattle.std.proofs.Common.{◌≡◌, ℕ, zero, suc, ◌+◌, ◌/◌, ◌%◌, ◌^◌, ◌<◌, ◌≤◌, Bool, true, not, ◌&&◌, eqb, ltb, leb, ◌≢◌, ◌⊎◌, List, [], ◌∷◌, length, get_or, Some, None, Option, sym, refl, ap, ◌∙◌, subst, subst₂, inl, inr, arith, length-append}
 use mathlib.Core.List.Memᴰ
 use mathlib.Core.List.{Memᴰ}
 use native.Mathlib.Decide.{dec_lt}
 use lib.ListN.{length-map}
 use Rattle.std.proofs.lemmas.List.{get_or_append_left, get_or_push}
-use Rattle.std.proofs.lemmas.Bool.{and_parts, not-true, eqb-true, eqb-false, ltb-true, leb-true, cond_both}
+use Rattle.std.proofs.lemmas.Bool.{and_parts, not-true, eqb-false, ltb-true, leb-true, cond_both}
 use Rattle.domain.specs.Ring.{Ops, Laws}
 use Rattle.expression.specs.declared.item.Item.{Item}
 use Rattle.expression.specs.Words.{kind, number}
-use Rattle.machine.specs.Answer.{Answer, good, refused, ◌then◌, check}
+use Rattle.machine.specs.Answer.{good}
 use Rattle.machine.specs.Machine.{Machine}
 use Rattle.walk.specs.Walk.{in_order}
-use Rattle.walk.proofs.Chains.{refused_good, good_same, split, split_check}
+use Rattle.walk.proofs.Chains.{good_same, split, split_check}
 use Rattle.walk.proofs.SettledLaw.{Theory}
 use Rattle.proposal.specs.Proposal.{Pair, Claim, live, infeasible}
 use Rattle.correspondence.specs.State.{Open, first_pair, pair_at, with_pair, with_claim, counts_of, symbols_of}
 use Rattle.machine.specs.declared.head.Head.{Head}
-use Rattle.proposal.specs.Reading.{Read, word_at, no_more, all_stored, bits, count_from, proposal_limits, HeadOfPair, pair_head, is_state, read_pair_head, read_mask, due, registers_of, read_facts, read_body, read_pair, HeadOfClaim, read_claim_head, read_path, Proposed, is_filed_pair, read_live, read_infeasible, read_claim}
-use Rattle.correspondence.specs.Judgement.{live_rules, infeasible_rules, judge}
+use Rattle.proposal.specs.Reading.{word_at, no_more, all_stored, bits, count_from, proposal_limits, HeadOfPair, pair_head, is_state, read_pair_head, read_mask, due, read_facts, read_body, read_pair, HeadOfClaim, read_claim_head, read_path, Proposed, is_filed_pair, read_live, read_infeasible, read_claim}
+use Rattle.correspondence.specs.Judgement.{judge}
 use Rattle.correspondence.specs.Coverage.{Covered, AllCovered, claim_path, is_filed, unmatched, Verdict, equivalent, lacks, unless_lacking, verdict_from, verdict}
 use Rattle.correspondence.specs.Calls.{Part, pair_words, claim_words, opened, filing}
 use Rattle.correspondence.proofs.Meaning.{Wherever, Leads, Valid, Kept}

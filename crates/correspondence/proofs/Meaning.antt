@@ -1,5 +1,5 @@
 -- What a pair means, when a claim is valid, and what every comparison that a history comes to keeps.
-use Rattle.std.proofs.Common.{◌≡◌, ℕ, ◌<◌, ◌≤◌, Bool, ◌≢◌, List, [], ◌∷◌, length, get_or}
+use Rattle.std.proofs.Common.{◌≡◌, ℕ, ◌<◌, ◌≤◌, Bool, ◌≢◌, List, [], length, get_or}
 use mathlib.Core.List.{Memᴰ}
 use Rattle.domain.specs.Ring.{Ops}
 use Rattle.expression.specs.Values.{Bank, in_proposal, answer}

@@ -1,5 +1,5 @@
 -- The proposal of a table beside itself is clean and covers every pair.
-use Rattle.std.proofs.Common.{◌≡◌, ℕ, zero, suc, ◌+◌, ◌-◌, ◌*◌, ◌<◌, ◌≤◌, Bool, true, false, cond, not, ◌&&◌, ◌||◌, eqb, ltb, leb, ◌⊎◌, List, [], ◌∷◌, ◌++◌, map, length, get_or, sym, refl, ap, ◌∙◌, subst, ap₂, subst₂, inl, inr, append_assoc, append-nil, arith, length-append}
+use Rattle.std.proofs.Common.{◌≡◌, ℕ, zero, suc, ◌+◌, ◌-◌, ◌*◌, ◌<◌, ◌≤◌, Bool, true, false, cond, not, ◌&&◌, eqb, ltb, leb, ◌⊎◌, List, [], ◌∷◌, ◌++◌, map, length, get_or, sym, refl, ap, ◌∙◌, subst, ap₂, subst₂, inl, inr, append_assoc, append-nil, arith, length-append}
 use mathlib.Core.Bool.{false≢true}
 use mathlib.Core.List.Memᴰ
 use mathlib.Core.List.{Memᴰ}
@@ -14,18 +14,18 @@ use Rattle.expression.specs.declared.item.Item.TheVariants.{Constant, Register, 
 use Rattle.expression.specs.Words.{takes}
 use Rattle.expression.specs.Shape.{lands, is_expression}
 use Rattle.machine.specs.declared.words.Limits.{Limits}
-use Rattle.machine.specs.Answer.{Answer, good, refused, ◌then◌, check}
+use Rattle.machine.specs.Answer.{good, check}
 use Rattle.machine.specs.Machine.{Machine, Action, store, emit, Transition, Row, straight, branch, row_at, chosen, Each}
 use Rattle.machine.specs.Sound.{ItemStands, ExpressionStands, ActionStands, TransitionStands, RowStands, SoundMachine}
 use Rattle.walk.specs.Settled.{any}
-use Rattle.walk.specs.Walk.{allows, is_last, in_order}
+use Rattle.walk.specs.Walk.{allows, in_order}
 use Rattle.walk.proofs.SettledLaw.{Theory}
-use Rattle.proposal.specs.Proposal.{Pair, Claim, live, infeasible, opening_pair, symbols_from}
-use Rattle.correspondence.specs.State.{Open, first_pair, pair_at, with_pair, with_claim, counts_of, symbols_of}
-use Rattle.proposal.specs.Reading.{Read, read, word_at, no_more, all_stored, bits, count_from, proposal_limits, HeadOfPair, is_state, read_pair_head, read_mask, due, registers_of, read_facts, read_body, read_pair, HeadOfClaim, read_claim_head, read_path, Proposed, is_filed_pair, read_live, read_claim}
+use Rattle.proposal.specs.Proposal.{Pair, Claim, live, opening_pair, symbols_from}
+use Rattle.correspondence.specs.State.{Open, pair_at, counts_of, symbols_of}
+use Rattle.proposal.specs.Reading.{read, word_at, all_stored, bits, count_from, proposal_limits, read_pair_head, read_mask, due, read_facts, read_body, read_pair, HeadOfClaim, read_claim_head, read_path, Proposed, read_live, read_claim}
 use Rattle.correspondence.specs.Judgement.{live_rules, judge}
-use Rattle.correspondence.specs.Coverage.{Filed, as_live, Continues, Covered, filed, begun, AllCovered, is_path, is_filed, claim_start, claim_path}
-use Rattle.correspondence.specs.Calls.{Part, pair_words, claim_words, opened, filing, filing_all, CleanCovers}
+use Rattle.correspondence.specs.Coverage.{Filed, as_live, Continues, filed, begun, AllCovered, is_path, is_filed, claim_start, claim_path}
+use Rattle.correspondence.specs.Calls.{Part, opened, filing, filing_all, CleanCovers}
 use Rattle.correspondence.specs.Itself.{as_symbol, carried, substitutes, stores_words, step_word, self_pair_words, self_pairs, self_claim, self_claims, self_proposal_of, self_proposal, ActionWithin, RowWithin, NoneOver}
 use Rattle.correspondence.proofs.Filing.{symbols_count}
 use Rattle.correspondence.proofs.SelfRules.{go_on, go_check, self_pair, TestWithin, StoredThere, rules_hold}

@@ -1,5 +1,5 @@
 -- One step of a machine beside itself keeps the rules.
-use Rattle.std.proofs.Common.{◌≡◌, ℕ, zero, suc, ◌+◌, ◌<◌, ◌≤◌, Bool, true, false, cond, ◌&&◌, ◌||◌, eqb, ltb, List, [], ◌∷◌, ◌++◌, map, length, set, Some, None, Option, sym, refl, ap, ◌∙◌, subst, ap₂, arith, length-set}
+use Rattle.std.proofs.Common.{◌≡◌, ℕ, zero, suc, ◌+◌, ◌<◌, ◌≤◌, Bool, true, false, cond, eqb, ltb, List, [], ◌∷◌, ◌++◌, map, length, set, Some, None, Option, sym, refl, ap, ◌∙◌, subst, ap₂, arith, length-set}
 use mathlib.Core.Path.{fun_ext}
 use mathlib.Core.Bool.{beq}
 use Prim.Native.Nat.compare
@@ -13,17 +13,16 @@ use Rattle.expression.specs.declared.test.Test.{Test}
 use Rattle.expression.specs.declared.test.Test.TheVariants.{Same, Below}
 use Rattle.expression.specs.Run.{Algebra, and_then, step, run, only, meaning}
 use Rattle.expression.proofs.Running.{Follows, refuses, answers, Respects, some_follows, meaning_follows}
-use Rattle.forms.specs.Forms.{Form, symbol_form, input_form, sum, difference, product, negation, constant_form, same_form}
+use Rattle.forms.specs.Forms.{Form, symbol_form, input_form, sum, difference, product, negation}
 use Rattle.forms.specs.Limited.{limited}
-use Rattle.machine.specs.Answer.{Answer, good, refused, ◌then◌, check}
-use Rattle.machine.specs.Machine.{Machine, Action, store, emit, Transition, Row, straight, branch, row_at, chosen, Each}
+use Rattle.machine.specs.Answer.{Answer, good, ◌then◌, check}
+use Rattle.machine.specs.Machine.{Machine, Action, store, emit, Row, straight, branch, row_at, chosen, Each}
 use Rattle.walk.specs.Settled.{Known, is_test, twin, settled, all}
 use Rattle.walk.specs.Walk.{Track, Acted, nth, fits, form_in_table, act, tested, walk, learn, must}
 use Rattle.walk.specs.Walk as walks
-use Rattle.walk.proofs.Chains.{none_some, some_same}
 use Rattle.walk.proofs.SettledLaw.{Theory}
 use Rattle.proposal.specs.Proposal.{Pair, symbols_from}
-use Rattle.correspondence.specs.Judgement.{form_in_proposal, formed, started, at_start, same_outputs, end_states, is_form, same_registers, facts_settled, end_holds, live_rules}
+use Rattle.correspondence.specs.Judgement.{form_in_proposal, formed, started, at_start, same_outputs, is_form, same_registers, facts_settled, end_holds, live_rules}
 use Rattle.correspondence.specs.Itself.{as_symbol, carried, substitutes, as_symbols, Within, ActionWithin}
 
 -- Chains that pass

@@ -1,13 +1,13 @@
 -- The two machines keep to the pairs of a comparison whose every pair is covered.
-use Rattle.std.proofs.Common.{◌≡◌, ℕ, zero, suc, ◌+◌, ◌-◌, ◌<◌, ◌≤◌, Bool, true, false, ◌≢◌, ◌⊎◌, List, [], ◌∷◌, ◌++◌, length, sym, refl, ap, ◌∙◌, subst, ap₂, inl, inr, arith, length-append}
+use Rattle.std.proofs.Common.{◌≡◌, ℕ, zero, suc, ◌+◌, ◌-◌, ◌<◌, ◌≤◌, Bool, ◌≢◌, ◌⊎◌, List, [], ◌∷◌, ◌++◌, length, sym, refl, ap, ◌∙◌, subst, inl, inr, arith, length-append}
 use native.Mathlib.Decide.{dec_lt}
 use Rattle.domain.specs.Ring.{Ops}
 use Rattle.expression.specs.declared.item.Item.{Item}
 use Rattle.expression.specs.Values.{Bank, in_table}
 use Rattle.machine.specs.Machine.{Machine, Row, straight, branch, row_at, chosen}
-use Rattle.machine.specs.Runs.{Place, reset, Outputs, turn, turn_at, next, turns, after, outputs, Clear, Returns, Rounds, no_round, round, Completes, Agree, Equivalent}
+use Rattle.machine.specs.Runs.{Place, reset, Outputs, turn, turn_at, next, turns, after, outputs, Clear, Returns, Rounds, no_round, round, Completes, Agree}
 use Rattle.machine.proofs.Runs.{after_add, turns_one_more, returns_later, returns_once, rounds_once, first_round}
-use Rattle.proposal.specs.Proposal.{Claim, live, infeasible}
+use Rattle.proposal.specs.Proposal.{live, infeasible}
 use Rattle.correspondence.specs.State.{Open, first_pair, pair_at}
 use Rattle.correspondence.specs.Coverage.{led, Continues, Filed, as_live, as_infeasible, Covered, filed, begun, AllCovered}
 use Rattle.correspondence.proofs.Meaning.{Holds, Takes, Kept, Sound}

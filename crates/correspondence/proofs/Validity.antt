@@ -1,5 +1,5 @@
 -- A claim that is accepted is valid.
-use Rattle.std.proofs.Common.{◌≡◌, ℕ, zero, suc, ◌+◌, ◌<◌, ◌≤◌, Bool, true, false, cond, not, ◌&&◌, ◌||◌, eqb, ltb, ◌≢◌, ◌⊎◌, List, [], ◌∷◌, ◌++◌, length, get_or, Some, None, Option, sym, refl, ap, ◌∙◌, subst, ap₂, inl, inr, true≢false, arith}
+use Rattle.std.proofs.Common.{◌≡◌, ℕ, zero, suc, ◌+◌, ◌<◌, Bool, true, false, not, ◌&&◌, ◌||◌, eqb, ◌≢◌, List, [], ◌∷◌, ◌++◌, length, get_or, Some, None, Option, sym, refl, ap, ◌∙◌, subst, ap₂, inl, true≢false, arith}
 use mathlib.Core.Bool.{false≢true}
 use Rattle.std.proofs.lemmas.Bool.{and_parts, not-true, eqb-true, eqb-false}
 use Rattle.domain.specs.Ring.{Ops, Laws}
@@ -8,16 +8,16 @@ use Rattle.expression.specs.Values.{Bank, in_table, in_proposal, answer}
 use Rattle.forms.specs.Forms.{Form, symbol_form, same_form}
 use Rattle.forms.specs.Values.{Normal, value}
 use Rattle.machine.specs.Answer.{Answer, good, refused, ◌then◌, check}
-use Rattle.machine.specs.Machine.{Machine, Transition, Row, straight, branch, row_at, chosen, Each}
-use Rattle.machine.specs.Runs.{Place, turn, turn_at, next, turns, after, outputs, Clear}
+use Rattle.machine.specs.Machine.{Machine, Row, straight, branch, row_at, chosen, Each}
+use Rattle.machine.specs.Runs.{Place, turn, turn_at, next, turns, after, Clear}
 use Rattle.walk.specs.Settled.{Known, settled, all, Holds}
-use Rattle.walk.specs.Walk.{allows, is_last, in_order, Track, nth, fits, tested, step, walk, learn, must, form_in_table}
-use Rattle.walk.specs.Laws.{Match, values_of, Goes, At}
+use Rattle.walk.specs.Walk.{allows, is_last, in_order, Track, nth, tested, step, walk, learn, must, form_in_table}
+use Rattle.walk.specs.Laws.{Match, values_of, At}
 use Rattle.walk.proofs.Chains.{refused_good, none_some, good_same, some_same, split, split_check, check_true, split_fits, split_some}
 use Rattle.walk.proofs.SettledLaw.{IsValue, Theory, symbol_value, settles}
-use Rattle.walk.proofs.Following.{each_append, proposal_value, table_value, Trail, trail, second_walk}
+use Rattle.walk.proofs.Following.{each_append, proposal_value, table_value, trail, second_walk}
 use Rattle.proposal.specs.Proposal.{Fact, Pair}
-use Rattle.correspondence.specs.Judgement.{form_in_proposal, formed, fact_form, fact_forms, Started, started, at_start, other_settled, never_taken, same_outputs, end_states, is_form, same_registers, facts_settled, end_holds, live_rules, infeasible_rules}
+use Rattle.correspondence.specs.Judgement.{form_in_proposal, formed, fact_form, fact_forms, Started, started, at_start, other_settled, never_taken, same_outputs, is_form, same_registers, facts_settled, end_holds, live_rules, infeasible_rules}
 use Rattle.correspondence.proofs.Meaning as meaning
 
 -- Of the steps on a path only the last enters state 0.

@@ -1,5 +1,5 @@
 -- Words of a proposal that were written are read back.
-use Rattle.std.proofs.Common.{◌≡◌, ℕ, zero, suc, ◌+◌, ◌-◌, ◌*◌, ◌/◌, ◌%◌, ◌^◌, ◌<◌, ◌≤◌, Bool, true, false, cond, not, ◌&&◌, ◌||◌, eqb, ltb, leb, List, [], ◌∷◌, ◌++◌, map, length, get_or, take, drop, sym, refl, ap, ◌∙◌, subst, ap₂, append_assoc, append-nil, arith, length-append, take_at, drop_at, pow_pos}
+use Rattle.std.proofs.Common.{◌≡◌, ℕ, zero, suc, ◌+◌, ◌-◌, ◌*◌, ◌/◌, ◌%◌, ◌^◌, ◌<◌, ◌≤◌, Bool, true, false, not, ◌&&◌, ◌||◌, eqb, ltb, leb, List, [], ◌∷◌, ◌++◌, map, length, get_or, take, drop, sym, refl, ap, ◌∙◌, ap₂, append_assoc, append-nil, arith, length-append, take_at, drop_at, pow_pos}
 use lib.Seq.{get_or_at}
 use Rattle.std.proofs.lemmas.Bool.{and_from, eq-eqb, ne_eqb, lt-ltb, le-leb, cond-true, cond-false}
 use Rattle.std.proofs.lemmas.List.{length_push, length-map}
@@ -9,11 +9,11 @@ use Rattle.expression.specs.Words.{kind, number, item_of, item_word}
 use Rattle.expression.specs.Shape.{is_expression}
 use Rattle.expression.proofs.WordsBack.{item_back}
 use Rattle.machine.specs.declared.words.Limits.{Limits}
-use Rattle.machine.specs.Answer.{Answer, good, refused, ◌then◌, check, numbered}
+use Rattle.machine.specs.Answer.{good, numbered}
 use Rattle.machine.specs.Machine.{Each}
 use Rattle.machine.specs.Words.{bound, legal, ends, ending, word, part}
 use Rattle.proposal.specs.Proposal.{symbols_from}
-use Rattle.proposal.specs.Reading.{Read, read, word_at, stored, all_stored, bits, count_from, HeadOfPair, pair_head, read_pair_head, symbols_exist, read_mask, due, registers_of, HeadOfClaim, read_claim_head, read_path}
+use Rattle.proposal.specs.Reading.{read, word_at, stored, all_stored, bits, count_from, read_pair_head, symbols_exist, read_mask, due, registers_of, read_claim_head, read_path}
 use Rattle.correspondence.specs.Itself.{stores_words, step_word}
 use Rattle.correspondence.proofs.SelfRules.{go_on, go_check}
 

@@ -1,12 +1,12 @@
 -- Calls on a comparison: what each answers and leaves; histories of calls; clean proposals.
-use Rattle.std.specs.Prelude.{◌≡◌, ℕ, suc, ◌+◌, ◌-◌, ◌≤◌, Bool, ◌&&◌, ◌⊎◌, List, [], ◌∷◌, length, Some, None, Option, ◌==◌, nat_le, nat_lt}
+use Rattle.std.specs.Prelude.{◌≡◌, ℕ, suc, ◌+◌, ◌-◌, ◌≤◌, ◌&&◌, ◌⊎◌, List, [], ◌∷◌, length, Some, None, Option, ◌==◌, nat_le, nat_lt}
 use Rattle.domain.specs.Ring.{Ops}
 use Rattle.machine.specs.Answer.{Answer, good, refused, ◌then◌, check, of_machine}
 use Rattle.machine.specs.Machine.{Machine}
 use Rattle.machine.specs.Reading.{machine}
-use Rattle.proposal.specs.Proposal.{Pair, Claim, opening_pair}
+use Rattle.proposal.specs.Proposal.{opening_pair}
 use Rattle.correspondence.specs.State.{Open, with_pair, with_claim, counts_of, symbols_of}
-use Rattle.proposal.specs.Reading.{Proposed, read_pair, read_claim}
+use Rattle.proposal.specs.Reading.{read_pair, read_claim}
 use Rattle.correspondence.specs.Judgement.{judge}
 use Rattle.correspondence.specs.Coverage.{AllCovered, Verdict, verdict}
 

@@ -1,5 +1,5 @@
 -- Which paths are covered, and the verdict.
-use Rattle.std.specs.Prelude.{◌≡◌, ℕ, zero, suc, ◌<◌, Bool, true, false, ◌&&◌, ◌||◌, List, [], ◌∷◌, ◌++◌, length, Some, None, Option, ◌==◌}
+use Rattle.std.specs.Prelude.{◌≡◌, ℕ, zero, suc, ◌<◌, Bool, true, false, ◌&&◌, List, [], ◌∷◌, ◌++◌, length, Some, None, Option, ◌==◌}
 use Rattle.std.specs.Bool.{beq}
 use mathlib.Core.List.{Memᴰ}
 use Rattle.machine.specs.Machine.{Machine, Row, straight, branch, row_at, chosen}

@@ -1,7 +1,7 @@
 -- The guarantee, whole: what equivalent means, that clean proposals earn it, and that every table can earn it beside itself.
 use Rattle.std.specs.Prelude.{◌≡◌, ℕ, List}
 use Rattle.domain.specs.Ring.{Ops}
-use Rattle.machine.specs.Answer.{Answer, good}
+use Rattle.machine.specs.Answer.{good}
 use Rattle.machine.specs.Runs.{Equivalent}
 use Rattle.correspondence.specs.State.{Open}
 use Rattle.correspondence.specs.Coverage.{equivalent}

@@ -1,5 +1,5 @@
 -- The judgement of a claim that was read: its checks in their order, each with the refusal that it meets.
-use Rattle.std.specs.Prelude.{ℕ, zero, suc, Bool, true, false, not, ◌&&◌, List, [], ◌∷◌, Some, None, Option, ◌==◌}
+use Rattle.std.specs.Prelude.{ℕ, suc, Bool, false, not, ◌&&◌, List, [], ◌∷◌, Some, None, Option, ◌==◌}
 use Rattle.domain.specs.Ring.{Ops}
 use Rattle.expression.specs.declared.item.Item.{Item}
 use Rattle.expression.specs.Run.{and_then, meaning}
@@ -11,7 +11,6 @@ use Rattle.walk.specs.Settled.{Known, settled, all}
 use Rattle.walk.specs.Walk.{in_order, Track, nth, fits, tested, step, walk, learn, must}
 use Rattle.proposal.specs.Proposal.{Fact, Pair, Claim, live, infeasible}
 use Rattle.correspondence.specs.State.{Open, pair_at}
-use Rattle.proposal.specs.Reading.{Proposed}
 use Rattle.correspondence.specs.Coverage.{is_filed}
 
 module _ {D : Type 0} (o : Ops D) where

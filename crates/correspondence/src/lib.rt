@@ -1,2 +1,4 @@
 // The comparison of two machines.
+#![tactic(auto)]
+
 pub mod laws;

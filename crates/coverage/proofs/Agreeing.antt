@@ -1,8 +1,8 @@
 -- Paths compared turn by turn.
-use Rattle.std.proofs.Common.{◌≡◌, ℕ, zero, suc, ◌+◌, ◌-◌, ◌/◌, ◌%◌, ◌<◌, ◌≤◌, Bool, true, false, cond, not, ◌&&◌, ◌||◌, eqb, ltb, List, [], ◌∷◌, map, length, get_or, drop, sym, refl, ap, ◌∙◌, ap₂, ⊎_elim, arith}
+use Rattle.std.proofs.Common.{◌≡◌, ℕ, zero, suc, ◌+◌, ◌-◌, ◌/◌, ◌%◌, ◌<◌, ◌≤◌, Bool, true, false, cond, not, ◌&&◌, ◌||◌, eqb, ltb, List, map, length, get_or, drop, sym, refl, ap, ◌∙◌, ap₂, ⊎_elim, arith}
 use mathlib.Core.Bool.{beq}
 use lib.Dec.{eqb-zero-suc, eqb-suc-zero, eqb-suc-suc}
-use Rattle.std.proofs.lemmas.Bool.{eq-eqb, ne_eqb, lt-ltb, le-ltb, cases_eq, cases_lt, eqb-true}
+use Rattle.std.proofs.lemmas.Bool.{eq-eqb, ne_eqb, lt-ltb, le-ltb, cases_eq, cases_lt}
 use Rattle.std.proofs.lemmas.List.{at_drop_more, at_drop_all}
 use Rattle.walk.specs.Settled.{any}
 use Rattle.proposal.specs.Proposal.{Claim}
@@ -11,7 +11,7 @@ use Rattle.proposal.specs.declared.claim.Claim as declared
 use Rattle.proposal.specs.declared.claim.Claim.TheVariants as variants
 use Rattle.proposal.specs.Reading.{bits}
 use Rattle.proposal.specs.Claims.{turns_of, claim_of}
-use Rattle.guarantee.specs.Coverage.{is_path, begins, claim_start, claim_path}
+use Rattle.guarantee.specs.Coverage.{is_path, begins}
 use Rattle.coverage.specs.Matching.{same_turns, start_of, path_of, matches}
 
 -- Two turns, one or two.

@@ -1,5 +1,5 @@
 -- A path with one turn more.
-use Rattle.std.proofs.Common.{◌≡◌, ℕ, zero, suc, ◌+◌, ◌*◌, ◌/◌, ◌%◌, ◌^◌, ◌<◌, Bool, true, false, cond, not, eqb, List, [], ◌∷◌, ◌++◌, map, sym, refl, ap, ◌∙◌, ap₂, arith}
+use Rattle.std.proofs.Common.{◌≡◌, ℕ, zero, suc, ◌+◌, ◌*◌, ◌/◌, ◌%◌, ◌^◌, ◌<◌, Bool, true, false, cond, not, eqb, [], ◌∷◌, ◌++◌, map, refl, ap, ◌∙◌, ap₂, arith}
 use native.Mathlib.Nat.{pow-succ'}
 use Rattle.proposal.specs.Reading.{bits}
 

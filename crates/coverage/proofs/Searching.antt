@@ -1,5 +1,5 @@
 -- One turn of the search for an unmatched path.
-use Rattle.std.proofs.Common.{◌≡◌, ℕ, zero, suc, ◌+◌, ◌-◌, ◌<◌, Bool, true, false, cond, List, [], ◌∷◌, ◌++◌, map, is_some, Some, None, Option, sym, refl, ap, ◌∙◌, subst, ap₂, arith}
+use Rattle.std.proofs.Common.{◌≡◌, ℕ, suc, ◌-◌, ◌<◌, Bool, true, false, List, [], ◌∷◌, ◌++◌, is_some, Some, None, Option, sym, refl, ap, ◌∙◌, ap₂, arith}
 use Rattle.machine.specs.Machine.{Machine, Row, straight, branch, row_at, chosen}
 use Rattle.walk.specs.Settled.{any}
 use Rattle.walk.specs.Taking.{table_machine, allowed_target}
@@ -7,7 +7,7 @@ use Rattle.proposal.specs.declared.claim.Path.{Path}
 use Rattle.proposal.specs.declared.claim.Claim.{Claim}
 use Rattle.proposal.specs.Claims.{turns_of}
 use Rattle.guarantee.specs.State.{Open, pair_at}
-use Rattle.guarantee.specs.Coverage.{led, is_filed, begins_filed, first_of, judged, unmatched}
+use Rattle.guarantee.specs.Coverage.{led, judged, unmatched}
 use Rattle.coverage.specs.Matching.{matches, any_matches}
 use Rattle.coverage.specs.Trees.{path_seen, Holds, Finds}
 

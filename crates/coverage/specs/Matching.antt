@@ -1,5 +1,5 @@
 -- Claims whose first path is a given one, or goes on behind it.
-use Rattle.std.specs.Prelude.{ℕ, zero, suc, ◌/◌, ◌%◌, Bool, true, false, cond, ◌&&◌, List, map, ◌==◌}
+use Rattle.std.specs.Prelude.{ℕ, zero, suc, ◌/◌, ◌%◌, Bool, true, cond, ◌&&◌, List, map, ◌==◌}
 use Rattle.std.specs.Bool.{beq}
 use Rattle.walk.specs.Settled.{any}
 use Rattle.proposal.specs.declared.claim.Path.{Path}

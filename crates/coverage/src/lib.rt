@@ -1,3 +1,5 @@
 // Which paths the filed claims cover.
+#![tactic(auto)]
+
 pub mod matching;
 pub mod tree;

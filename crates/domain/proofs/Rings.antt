@@ -1,5 +1,5 @@
 -- What follows from the laws of a domain.
-use mathlib.Core.Path.{◌≡◌, refl, sym, ap, ◌∙◌}
+use mathlib.Core.Path.{◌≡◌, sym, ap, ◌∙◌}
 use Rattle.domain.specs.Ring.{Ops, Laws}
 
 module _ {V : Type 0} {o : Ops V} (laws : Laws o) where

@@ -1,11 +1,11 @@
 -- The bytes of FIPS 197 are a domain.
-use Rattle.std.specs.Prelude.{◌≡◌, refl, Bool, true, false, cond, ℕ, zero, suc, ◌+◌, ◌-◌, ◌*◌, ◌/◌, ◌%◌, ◌^◌, ◌<◌}
-use Rattle.std.proofs.Common.{sym, ap, ◌∙◌, mod-eq_of_lt, arith, eqb-true, eq-eqb}
+use Rattle.std.specs.Prelude.{◌≡◌, refl, ◌%◌, ◌<◌}
+use Rattle.std.proofs.Common.{sym, ap, ◌∙◌, mod-eq_of_lt, eqb-true, eq-eqb}
 use mathlib.Core.HLevel.{is_prop→PathP}
 use Rattle.std.proofs.Math.Bridge.{le_prop}
 use Rattle.std.specs.Int.Bits.{bit_xor, xor_assoc, xor_self, xor_zero_r}
 use Rattle.std.proofs.lemmas.Nat.{xor_lt, xor_comm}
-use Rattle.domain.specs.Ring.{Ops, Laws}
+use Rattle.domain.specs.Ring.{Laws}
 use Rattle.domain.specs.Bytes.{byte_of, byte_ops}
 use Rattle.domain.specs.Fips.{byte_times}
 use Rattle.domain.specs.Shifts.{byte_times_lt, byte_times_xor, byte_times_one}

@@ -1,5 +1,5 @@
 -- The field of FIPS 197: the operations.
-use Rattle.std.specs.Prelude.{Bool, ℕ, ◌%◌, eqb, ltb}
+use Rattle.std.specs.Prelude.{ℕ, ◌%◌, eqb, ltb}
 use Rattle.std.proofs.Common.{arith}
 use Rattle.std.specs.Int.Bits.{bit_xor}
 use Rattle.domain.specs.Ring.{Ops}

@@ -1,6 +1,6 @@
 -- A test that is computed at each number below n gives the fact at each.
-use Rattle.std.specs.Prelude.{◌≡◌, Bool, true, false, ◌⊎◌, ℕ, zero, suc, ◌<◌, T}
-use Rattle.std.proofs.Common.{subst, sym, inl, inr, ⊎_elim, le_of_suc-le-suc, not-suc-le-zero, eq-or-lt_of_le}
+use Rattle.std.specs.Prelude.{Bool, true, false, ℕ, zero, suc, ◌<◌, T}
+use Rattle.std.proofs.Common.{subst, sym, ⊎_elim, le_of_suc-le-suc, not-suc-le-zero, eq-or-lt_of_le}
 
 abbrev pub both : Bool → Bool → Bool
 both true b = b

@@ -1,5 +1,5 @@
 -- Multiplication of bytes as FIPS 197 defines it: polynomials over the bits, modulo x^8 + x^4 + x^3 + x + 1, which is hex 11b.
-use Rattle.std.specs.Prelude.{Bool, true, false, cond, ℕ, zero, suc, ◌+◌, ◌*◌, ◌/◌, ◌%◌, eqb}
+use Rattle.std.specs.Prelude.{cond, ℕ, zero, suc, ◌*◌, ◌/◌, ◌%◌, eqb}
 use Rattle.std.specs.Int.Bits.{bit_xor}
 
 -- a where the bit is 1, else 0

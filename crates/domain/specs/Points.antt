@@ -1,5 +1,5 @@
 -- Worked points of the two domains.
-use Rattle.std.specs.Prelude.{◌≡◌, Bool, true, false, ℕ}
+use Rattle.std.specs.Prelude.{◌≡◌, Bool, true, false}
 use Rattle.domain.specs.Ring.{Ops}
 use Rattle.domain.specs.Fips.{byte_times}
 use Rattle.domain.specs.Words.{word_ops}

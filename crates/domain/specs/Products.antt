@@ -1,10 +1,10 @@
 -- Products of bytes through logarithms.
-use Rattle.std.specs.Prelude.{◌≡◌, refl, ℕ, zero, suc, ◌+◌, ◌*◌, ◌/◌, ◌%◌, ◌<◌}
-use Rattle.std.proofs.Common.{sym, ap, subst, ◌∙◌, zero-add, suc-add, add_comm, add_assoc, add-zero, zero-mul, suc-mul, arith, lit<}
+use Rattle.std.specs.Prelude.{◌≡◌, ℕ, zero, suc, ◌+◌, ◌*◌, ◌/◌, ◌%◌, ◌<◌}
+use Rattle.std.proofs.Common.{sym, ap, subst, ◌∙◌, zero-add, suc-add, add_comm, add_assoc, add-zero, zero-mul, arith, lit<}
 use Rattle.std.proofs.Math.Nat.{mod-add-div'}
 use Rattle.domain.specs.Fips.{byte_times, three_to}
 use Rattle.domain.specs.Shifts.{byte_times_lt, byte_times_zero, zero_byte_times, byte_times_one, one_byte_times, three_byte_times, triple, triple_byte_times}
-use Rattle.domain.specs.Rule.{log, log_lt, log_rule, cycle}
+use Rattle.domain.specs.Rule.{log, log_rule, cycle}
 
 pub three_to_lt : (k : ℕ) → three_to k < 256
 three_to_lt zero = lit< tt

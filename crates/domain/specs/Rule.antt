@@ -1,5 +1,5 @@
 -- The rule of the two tables at every entry.
-use Rattle.std.specs.Prelude.{◌≡◌, refl, Bool, true, false, cond, ℕ, zero, suc, ◌+◌, ◌%◌, ◌<◌, T, ltb, eqb, get_or}
+use Rattle.std.specs.Prelude.{◌≡◌, refl, ℕ, zero, suc, ◌<◌, T, ltb, eqb, get_or}
 use Rattle.std.proofs.Common.{sym, ap, ◌∙◌, arith, eqb→eq, ltb→lt}
 use Rattle.domain.specs.Fips.{byte_times, three_to, xtime}
 use Rattle.domain.specs.Tables.{powers, logs}

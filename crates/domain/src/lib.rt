@@ -1,5 +1,7 @@
 // Domains of values: commutative rings with a value for each constant and two tests.
 // Generic code knows a domain by its ghost operations and their laws alone.
+#![tactic(auto)]
+
 ghost use Rattle.std.specs.Prelude.{◌≡◌};
 ghost use Rattle.domain.specs.Ring.{Ops, Laws};
 

@@ -1,5 +1,5 @@
 -- Two expressions one behind the other can be split in one way only.
-use Rattle.std.proofs.Common.{◌≡◌, ℕ, zero, suc, ◌+◌, ◌-◌, ◌<◌, ◌≤◌, Bool, true, false, ◌&&◌, eqb, leb, List, [], ◌∷◌, ◌++◌, map, length, take, drop, sym, refl, ap, ◌∙◌, subst, ⊎_elim, arith, take-add}
+use Rattle.std.proofs.Common.{◌≡◌, ℕ, zero, suc, ◌+◌, ◌-◌, ◌<◌, ◌≤◌, true, leb, List, [], ◌∷◌, ◌++◌, map, length, take, drop, sym, refl, ap, ◌∙◌, subst, ⊎_elim, arith, take-add}
 use Rattle.std.proofs.lemmas.Bool.{and_parts, leb-true, eqb-true, cases_order}
 use Rattle.std.proofs.lemmas.List.{take-append-drop, map-append, take-map}
 use Rattle.expression.specs.declared.item.Item.{Item}

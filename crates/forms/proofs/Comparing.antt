@@ -1,5 +1,5 @@
 -- Comparison of forms decides their equality.
-use Rattle.std.proofs.Common.{◌≡◌, ℕ, Bool, true, false, ◌&&◌, eqb, List, [], ◌∷◌, Decides, sym, refl, ap, ◌∙◌, ap₂}
+use Rattle.std.proofs.Common.{◌≡◌, Bool, true, false, eqb, [], ◌∷◌, Decides, sym, refl, ap, ◌∙◌, ap₂}
 use Rattle.std.proofs.lemmas.Bool.{and_parts, and_from, eqb-true, eq-eqb}
 use Rattle.domain.specs.Ring.{Ops, Laws}
 use Rattle.forms.specs.declared.term.Term.{Term}

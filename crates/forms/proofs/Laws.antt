@@ -1,13 +1,13 @@
 -- The values of the forms that the operations give.
-use Rattle.std.proofs.Common.{◌≡◌, ℕ, zero, suc, ◌+◌, ◌-◌, ◌*◌, ◌^◌, ◌<◌, ◌≤◌, Bool, true, false, cond, eqb, ltb, leb, List, [], ◌∷◌, length, Some, None, Option, sym, refl, ap, ◌∙◌, subst, ap₂, arith}
+use Rattle.std.proofs.Common.{◌≡◌, ℕ, zero, suc, ◌+◌, ◌-◌, ◌*◌, ◌^◌, ◌<◌, ◌≤◌, Bool, true, false, cond, eqb, ltb, leb, List, [], ◌∷◌, length, Some, None, Option, sym, refl, ap, ◌∙◌, subst, arith}
 use Rattle.std.specs.List.{AllByRecursion as All}
 use Rattle.std.proofs.lemmas.Bool.{cond_both, cond-true, cond-false, le-leb, lt-leb, leb-true, ltb-true, eqb-true}
 use Rattle.domain.specs.Ring.{Ops, Laws}
 use Rattle.domain.proofs.Rings.{one_mul, mul_left_comm}
 use Rattle.forms.specs.declared.term.Term.{Term}
-use Rattle.forms.specs.Monomials.{K, Codes, Packed, insert, times, pack, unpack, times_word, no_codes, one_code, symbol_code, input_code}
+use Rattle.forms.specs.Monomials.{K, Packed, insert, times, pack, unpack, times_word, no_codes, one_code, symbol_code, input_code}
 use Rattle.forms.specs.Forms.{Form, term, top, limit, unless_zero, added, negation, multiplied, sum, difference, product, constant_form, variable, symbol_form, input_form, fixed}
-use Rattle.forms.specs.Values.{Under, Normal, variables, power, weighed, value}
+use Rattle.forms.specs.Values.{Normal, variables, power, weighed, value}
 use Rattle.forms.specs.Theorems.{Worth, Lawful}
 use Rattle.forms.proofs.Limits.{sum_is, difference_is, constant_is, variable_is}
 use Rattle.forms.proofs.Packing.{word_none, unpacked, unpack_zero, pack_none}

@@ -1,11 +1,11 @@
 -- The operations make normal forms of normal forms.
-use Rattle.std.proofs.Common.{◌≡◌, ℕ, suc, ◌+◌, ◌<◌, ◌≤◌, max, Bool, true, false, cond, ltb, leb, List, [], ◌∷◌, length, Some, None, Option, sym, refl, ap, ◌∙◌, arith}
+use Rattle.std.proofs.Common.{◌≡◌, ℕ, suc, ◌+◌, ◌<◌, ◌≤◌, Bool, true, false, ltb, leb, List, [], ◌∷◌, length, Some, None, sym, refl, ap, ◌∙◌, arith}
 use Rattle.std.proofs.lemmas.Bool.{both_ways, cond_both, ltb-true, ltb-false, leb-true}
 use Rattle.domain.specs.Ring.{Ops, Laws}
 use Rattle.domain.proofs.Rings.{neg_neg, neg_zero}
 use Rattle.forms.specs.declared.term.Term.{Term}
-use Rattle.forms.specs.Monomials.{K, Packed, times_word, degree}
-use Rattle.forms.specs.Forms.{Form, term, top, limit, unless_zero, into, added, negation, term_product, scaled, multiplied}
+use Rattle.forms.specs.Monomials.{K, Packed, times_word}
+use Rattle.forms.specs.Forms.{Form, term, top, limit, into, added, negation, term_product, scaled, multiplied}
 use Rattle.forms.specs.Values.{Under, Normal}
 use Rattle.forms.proofs.Merging.{packed_times, times_word_rises, degree_packed}
 

@@ -1,17 +1,14 @@
 -- Normal forms are equal exactly where the polynomials are.
-use Rattle.std.proofs.Common.{◌≡◌, ℕ, ◌+◌, ◌<◌, ◌≤◌, Bool, true, false, cond, eqb, ltb, leb, ◌↔◌, List, [], ◌∷◌, ◌++◌, Some, None, Option, sym, refl, ap, ◌∙◌, subst, ap₂, arith}
+use Rattle.std.proofs.Common.{◌≡◌, ℕ, ◌+◌, ◌<◌, ◌≤◌, Bool, true, false, cond, eqb, ltb, List, [], ◌∷◌, ◌++◌, Some, None, Option, sym, refl, ap, ◌∙◌, subst, ap₂, arith}
 use Rattle.std.specs.List.{AllByRecursion as All}
 use Rattle.std.proofs.lemmas.Bool.{cond_both, ltb-true, eqb-true, eqb-false, cond-true}
 use Rattle.domain.specs.Ring.{Ops, Laws}
 use Rattle.domain.proofs.Rings.{zero_add, mul_zero, one_mul}
-use Rattle.expression.specs.Run.{meaning, and_then}
-use Rattle.expression.specs.declared.item.Item.{Item}
-use Rattle.forms.specs.declared.term.Term.{Term}
 use Rattle.forms.specs.Monomials.{K, Packed, times, unpack, symbol_code, input_code}
 use Rattle.forms.specs.Forms.{Form, top, added, negation, multiplied, sum, difference, product, variable, symbol_form}
 use Rattle.forms.specs.Limited.{limited}
 use Rattle.forms.specs.Values.{Normal, weighed}
-use Rattle.forms.specs.Polynomials.{Summand, summand, equals, negated, pairs, letter, formal, coefficient_at, SamePolynomial}
+use Rattle.forms.specs.Polynomials.{Summand, equals, negated, pairs, letter, formal, coefficient_at}
 use Rattle.forms.specs.Theorems.{OneForm}
 use Rattle.forms.proofs.Limits.{sum_is, difference_is}
 use Rattle.forms.proofs.Packing.{unpacked, unpack_inj, unpack_zero, equals_true, equals_refl}

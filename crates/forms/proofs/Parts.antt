@@ -1,6 +1,6 @@
 -- A part of a row by its front, and rows with something written behind.
-use Rattle.std.proofs.Common.{◌≡◌, ℕ, suc, ◌+◌, ◌-◌, ◌<◌, ◌≤◌, List, [], ◌∷◌, ◌++◌, length, get_or, take, drop, set, sym, refl, ap, ◌∙◌, add-zero, add-one, arith}
-use Rattle.std.proofs.lemmas.List.{append-nil, append_assoc, drop_more, drop-drop, get_or_read, length-append, length-take-le, length-drop, length_push, same_lists, set-append_right, set_at, take-append-drop, take_at, take-append-le, take-take, drop-append-le, drop_at}
+use Rattle.std.proofs.Common.{◌≡◌, ℕ, suc, ◌+◌, ◌-◌, ◌<◌, ◌≤◌, List, [], ◌∷◌, ◌++◌, length, get_or, take, drop, set, sym, refl, ap, ◌∙◌, add-zero, arith}
+use Rattle.std.proofs.lemmas.List.{append_assoc, drop_more, length-append, length-take-le, length-drop, length_push, set-append_right, set_at, take-append-drop, take_at, take-take, drop_at}
 use Rattle.std.proofs.lemmas.Slice.{between_is}
 use Rattle.forms.specs.Rows.{part, Within, Written, Kept}
 use Rattle.forms.specs.declared.span.Span.{Span}

@@ -1,13 +1,13 @@
 -- One step of a scaled list and of a product, and their lengths.
-use Rattle.std.proofs.Common.{◌≡◌, ℕ, suc, ◌+◌, ◌-◌, ◌*◌, ◌<◌, ◌≤◌, Bool, true, false, cond, ltb, List, [], ◌∷◌, ◌++◌, length, get_or, take, drop, sym, refl, ap, ◌∙◌, arith}
+use Rattle.std.proofs.Common.{◌≡◌, ℕ, suc, ◌+◌, ◌-◌, ◌≤◌, true, false, ltb, List, [], ◌∷◌, ◌++◌, length, take, drop, sym, ap, ◌∙◌, arith}
 use Rattle.std.proofs.lemmas.List.{append_assoc, drop_at, drop-drop, length-append, length-take-le}
 use Rattle.std.proofs.lemmas.Bool.{cond_both}
 use Rattle.forms.specs.Forms.{added, into, unless_zero}
 use Rattle.domain.specs.Ring.{Ops}
-use Rattle.forms.specs.Rows.{part, Within, Written, Kept}
+use Rattle.forms.specs.Rows.{part, Written}
 use Rattle.forms.specs.declared.span.Span.{Span}
 use Rattle.forms.specs.declared.term.Term.{Term}
-use Rattle.forms.specs.Forms.{term_product, scaled, multiplied}
+use Rattle.forms.specs.Forms.{term_product, scaled}
 
 module _ {D : Type 0} (o : Ops D) where
   pub scaled_stays : (x y : Term D) {ys ys' : List (Term D)} {t : Term D} {z : D} → ys ≡ y ∷ ys' → t ≡ term_product o x y → z ≡ o.zero → false ≡ o.same t.coefficient z → scaled o x ys ≡ t ∷ scaled o x ys'

@@ -1,8 +1,8 @@
 -- One step of the sum.
-use Rattle.std.proofs.Common.{◌≡◌, ◌<◌, ◌≤◌, true, false, ltb, List, [], ◌∷◌, ◌++◌, sym, refl, ap, ◌∙◌, arith}
+use Rattle.std.proofs.Common.{◌≡◌, ◌<◌, ◌≤◌, true, false, List, [], ◌∷◌, sym, ◌∙◌, arith}
 use Rattle.std.proofs.lemmas.Bool.{lt-ltb, le-ltb, cond-true, cond-false}
 use Rattle.domain.specs.Ring.{Ops}
-use Rattle.forms.specs.Forms.{added, into, unless_zero}
+use Rattle.forms.specs.Forms.{added, unless_zero}
 use Rattle.forms.specs.declared.term.Term.{Term}
 
 module _ {D : Type 0} (o : Ops D) where

@@ -1,14 +1,14 @@
 -- Sums over the terms of a form, and over the summands of a polynomial.
-use Rattle.std.proofs.Common.{◌≡◌, ℕ, ◌<◌, ◌≤◌, true, false, cond, ltb, List, [], ◌∷◌, ◌++◌, sym, refl, ap, ◌∙◌, arith}
+use Rattle.std.proofs.Common.{◌≡◌, ℕ, ◌≤◌, ltb, List, [], ◌∷◌, ◌++◌, sym, refl, ap, ◌∙◌, arith}
 use Rattle.std.specs.List.{AllByRecursion as All}
-use Rattle.std.proofs.lemmas.Bool.{cond_both, ltb-true, ltb-false}
+use Rattle.std.proofs.lemmas.Bool.{cond_both, ltb-false}
 use Rattle.domain.specs.Ring.{Ops, Laws}
 use Rattle.domain.proofs.Rings.{zero_add, add_mul, zero_mul, mul_zero, neg_mul, neg_sum, neg_zero, add_left_comm}
 use Rattle.forms.specs.declared.term.Term.{Term}
 use Rattle.forms.specs.Monomials.{K, times, times_word}
 use Rattle.forms.specs.Forms.{Form, term, unless_zero, into, added, negation, term_product, scaled, multiplied}
 use Rattle.forms.specs.Values.{weighed}
-use Rattle.forms.specs.Polynomials.{Summand, summand, negated, each_times, pairs}
+use Rattle.forms.specs.Polynomials.{Summand, negated, each_times, pairs}
 
 module _ {D : Type 0} {o : Ops D} (laws : Laws o) (f : ℕ → D) where
   pub weighed_unless : (t : Term D) (p : Form D) → weighed o f (unless_zero o t p) ≡ o.add (o.mul t.coefficient (f t.monomial.0)) (weighed o f p)

@@ -1,9 +1,7 @@
 -- The value of a form is the value of its expression.
-use Rattle.std.proofs.Common.{◌≡◌, ℕ, List, Some, None, Option, sym, refl, ap, ◌∙◌, ap₂}
+use Rattle.std.proofs.Common.{◌≡◌, ℕ, Some, None, Option, sym, ap, ◌∙◌, ap₂}
 use Rattle.domain.specs.Ring.{Ops, Laws}
-use Rattle.expression.specs.Run.{meaning}
 use Rattle.expression.specs.Values.{values}
-use Rattle.expression.specs.declared.item.Item.{Item}
 use Rattle.forms.specs.Forms.{Form, sum, difference, product, input_form}
 use Rattle.forms.specs.Limited.{limited}
 use Rattle.forms.specs.Values.{Normal, value}

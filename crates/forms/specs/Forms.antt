@@ -1,5 +1,5 @@
 -- Normal forms of polynomials as lists of terms, and what is done with them within the limits.
-use Rattle.std.specs.Prelude.{◌≡◌, ℕ, ◌+◌, max, Bool, true, false, cond, ◌&&◌, List, [], ◌∷◌, length, Some, None, Option, ◌==◌, nat_le, nat_lt}
+use Rattle.std.specs.Prelude.{ℕ, ◌+◌, max, Bool, true, false, cond, ◌&&◌, List, [], ◌∷◌, length, Some, None, Option, ◌==◌, nat_le, nat_lt}
 use Rattle.domain.specs.Ring.{Ops}
 use Rattle.forms.specs.declared.monomial.Monomial.{Monomial}
 use Rattle.forms.specs.declared.term.Term.{Term}

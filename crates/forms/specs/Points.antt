@@ -1,5 +1,5 @@
 -- Worked points of the definitions.
-use Rattle.std.specs.Prelude.{◌≡◌, ℕ, List, [], ◌∷◌, Some, None, Option}
+use Rattle.std.specs.Prelude.{◌≡◌, List, [], ◌∷◌, Some, None, Option}
 use Rattle.domain.specs.Ring.{Ops}
 use Rattle.domain.specs.Words.{word_ops, word_of}
 use Rattle.domain.specs.Bytes.{byte_ops, byte_of}

@@ -1,5 +1,5 @@
 -- Formal polynomials: an expression multiplied out, without limits, as a list of summands.
-use Rattle.std.specs.Prelude.{◌≡◌, ℕ, Bool, true, false, cond, ◌&&◌, List, [], ◌∷◌, ◌++◌, Some, None, Option, ◌==◌, nat_lt}
+use Rattle.std.specs.Prelude.{◌≡◌, ℕ, Bool, true, false, cond, ◌&&◌, List, [], ◌∷◌, ◌++◌, Some, None, ◌==◌, nat_lt}
 use Rattle.domain.specs.Ring.{Ops}
 use Rattle.expression.specs.Run.{Algebra, and_then, meaning}
 use Rattle.expression.specs.declared.item.Item.{Item}

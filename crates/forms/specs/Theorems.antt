@@ -1,5 +1,5 @@
 -- What holds of monomials and of normal forms, for every domain.
-use Rattle.std.specs.Prelude.{◌≡◌, ℕ, ◌+◌, ◌<◌, ◌≤◌, Bool, true, false, cond, ◌↔◌, List, [], ◌∷◌, length, Some, None, Option, ◌==◌, nat_lt}
+use Rattle.std.specs.Prelude.{◌≡◌, ℕ, ◌+◌, ◌≤◌, Bool, true, false, cond, ◌↔◌, List, [], ◌∷◌, length, Some, None, Option, ◌==◌, nat_lt}
 use Rattle.domain.specs.Ring.{Ops}
 use Rattle.expression.specs.Run.{meaning}
 use Rattle.expression.specs.Values.{values}

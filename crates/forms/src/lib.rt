@@ -1,4 +1,6 @@
 // Normal forms of polynomials: monomials, terms, and forms as parts of a row of terms.
+#![tactic(auto)]
+
 pub mod compare;
 pub mod merge;
 pub mod monomial;

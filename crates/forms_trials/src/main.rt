@@ -1,4 +1,6 @@
 // Runs worked examples of normal forms and prints a line for each, which is compared with the stored output.
+#![tactic(auto)]
+
 use domain::Domain;
 use domain::byte::Byte;
 use domain::word::Word;

@@ -1,11 +1,11 @@
 -- Histories of calls: what an equivalent verdict in one means, and that clean proposals earn it.
-use Rattle.std.proofs.Common.{◌≡◌, ℕ, ◌≤◌, Bool, true, false, leb, ◌⊎◌, List, [], ◌∷◌, sym, refl, ap, ◌∙◌, subst, subst₂, inl, inr}
+use Rattle.std.proofs.Common.{◌≡◌, ℕ, ◌≤◌, leb, ◌⊎◌, List, [], ◌∷◌, sym, refl, ap, ◌∙◌, subst, subst₂, inl, inr}
 use Rattle.std.proofs.lemmas.Bool.{le-leb}
 use Rattle.domain.specs.Ring.{Ops, Laws}
 use Rattle.machine.specs.Answer.{Answer, good, refused, ◌then◌, check}
 use Rattle.machine.specs.Machine.{Machine}
 use Rattle.machine.specs.Runs.{Equivalent}
-use Rattle.walk.proofs.Chains.{refused_good, good_same, split, split_check}
+use Rattle.walk.proofs.Chains.{good_same, split, split_check}
 use Rattle.walk.proofs.SettledLaw.{Theory}
 use Rattle.guarantee.specs.State.{Open}
 use Rattle.guarantee.specs.Coverage.{equivalent, verdict}

@@ -1,5 +1,5 @@
 -- Pair 0 means that the shared registers are equal.
-use Rattle.std.proofs.Common.{◌≡◌, ℕ, zero, suc, ◌+◌, ◌-◌, ◌<◌, ◌≤◌, Bool, true, false, cond, ltb, List, [], ◌∷◌, ◌++◌, length, get_or, sym, refl, ap, ◌∙◌, subst, add-zero, zero-add, arith, length-append}
+use Rattle.std.proofs.Common.{◌≡◌, ℕ, zero, suc, ◌+◌, ◌-◌, ◌<◌, ◌≤◌, cond, ltb, [], ◌∷◌, ◌++◌, length, get_or, sym, refl, ap, ◌∙◌, add-zero, zero-add, arith, length-append}
 use native.Mathlib.Decide.{dec_lt}
 use Rattle.std.proofs.lemmas.List.{get_or_append_left, get_or-append_right}
 use Rattle.std.proofs.lemmas.Bool.{cond_below, cond_above}
@@ -9,7 +9,7 @@ use Rattle.expression.specs.Run.{meaning}
 use Rattle.expression.specs.Values.{Bank, in_proposal}
 use Rattle.machine.specs.Runs.{Agree}
 use Rattle.proposal.specs.Proposal.{opening_pair, symbols_from}
-use Rattle.guarantee.proofs.Meaning.{Holds, Gives}
+use Rattle.guarantee.proofs.Meaning.{Holds}
 
 length_symbols : (from n : ℕ) → length (symbols_from from n) ≡ n
 length_symbols from zero = refl

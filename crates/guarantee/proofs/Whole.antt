@@ -1,18 +1,17 @@
 -- The guarantee, whole.
-use Rattle.std.proofs.Common.{◌≡◌, ℕ, ◌+◌, ◌-◌, ◌≤◌, Bool, true, false, ◌&&◌, eqb, leb, List, [], ◌∷◌, sym, refl, ap, ◌∙◌, subst, subst₂}
+use Rattle.std.proofs.Common.{◌≡◌, ℕ, ◌≤◌, ◌&&◌, eqb, leb, List, sym, ◌∙◌, subst, subst₂}
 use Rattle.std.proofs.lemmas.Bool.{and_parts, leb-true}
 use Rattle.domain.specs.Ring.{Ops, Laws}
-use Rattle.machine.specs.Answer.{Answer, good, refused, ◌then◌, check, of_machine}
+use Rattle.machine.specs.Answer.{Answer, good, refused, of_machine}
 use Rattle.machine.specs.Machine.{Machine}
 use Rattle.machine.specs.Reading.{machine}
 use Rattle.machine.specs.Runs.{Equivalent}
-use Rattle.machine.specs.Sound.{SoundMachine}
 use Rattle.machine.specs.Encode.{SoundTables}
 use Rattle.walk.proofs.Chains.{refused_good, good_same, split, split_check}
 use Rattle.walk.proofs.SettledLaw.{Theory}
 use Rattle.guarantee.specs.State.{Open}
 use Rattle.guarantee.specs.Coverage.{equivalent}
-use Rattle.guarantee.specs.Calls.{opened, fit_together, opening, Call, ask_verdict, says, answer, after, CleanCovers, Event, parts_of, calls_of, Roomy, IdleBesides, PartsAccepted}
+use Rattle.guarantee.specs.Calls.{opened, fit_together, opening, ask_verdict, says, answer, after, CleanCovers, parts_of, calls_of, Roomy, IdleBesides, PartsAccepted}
 use Rattle.guarantee.specs.Itself.{self_proposal, NoneOver}
 use Rattle.guarantee.specs.Guarantee.{Guarantee}
 use Rattle.guarantee.proofs.Histories.{history_sound, history_complete}

@@ -1,5 +1,5 @@
 -- The words of a sound machine are accepted, and read as that machine.
-use Rattle.std.proofs.Common.{◌≡◌, ℕ, zero, suc, ◌+◌, ◌-◌, ◌*◌, ◌/◌, ◌%◌, ◌<◌, ◌≤◌, Bool, true, false, cond, not, ◌&&◌, ◌||◌, eqb, ltb, leb, ◌≢◌, List, [], ◌∷◌, ◌++◌, map, length, get_or, take, drop, set, is_some, Some, None, sym, refl, ap, ◌∙◌, subst, ⊎_elim, add-zero, zero-add, add-one, arith}
+use Rattle.std.proofs.Common.{◌≡◌, ℕ, zero, suc, ◌+◌, ◌-◌, ◌*◌, ◌/◌, ◌%◌, ◌<◌, ◌≤◌, Bool, true, false, cond, not, ◌&&◌, ◌||◌, eqb, ltb, leb, List, [], ◌∷◌, ◌++◌, map, length, get_or, take, drop, set, is_some, Some, sym, refl, ap, ◌∙◌, subst, add-zero, zero-add, arith}
 use Rattle.std.specs.List.{flat_map}
 use Rattle.std.proofs.lemmas.List.{append-nil, append_assoc, map-append, take_at, drop_at, drop-drop, get_or_at, get_or-drop, length_push, length-append, get_or-replicate}
 use Rattle.std.proofs.lemmas.Bool.{lt-ltb, le-ltb, le-leb, eq-eqb, ne_eqb}
@@ -13,9 +13,9 @@ use Rattle.expression.proofs.WordsBack.{item_back}
 use Rattle.machine.specs.declared.head.Head.{Head}
 use Rattle.machine.specs.Answer.{Answer, good, refused, ◌then◌}
 use Rattle.machine.specs.Words.{bound, legal, ends, ending, word, part, head_of, table_limits}
-use Rattle.machine.specs.Machine.{Action, store, emit, Transition, Row, straight, branch, Machine, Each}
-use Rattle.machine.specs.Sound.{ItemStands, ExpressionStands, ActionStands, Unstored, StoresOnce, TransitionStands, RowStands, SoundMachine}
-use Rattle.machine.specs.Reading.{longest, fresh, acts, marked, closing, transition, row, rows, headed, table, machine, Part, tests, part_of, parts, acting, transition_of, behind, row_of, cut, row_part, meant, first_rows, machine_of}
+use Rattle.machine.specs.Machine.{Action, store, emit, Transition, Row, straight, branch, Each}
+use Rattle.machine.specs.Sound.{ItemStands, ExpressionStands, ActionStands, StoresOnce, TransitionStands, RowStands}
+use Rattle.machine.specs.Reading.{longest, fresh, acts, marked, closing, transition, row, rows, table, Part, tests, part_of, parts, acting, transition_of, behind, row_of, cut, row_part, meant, first_rows, machine_of}
 use Rattle.machine.specs.Encode.{action_words, transition_words, row_words, machine_words, Accepts}
 use Rattle.machine.proofs.Cuts.{found_split, cut_is}
 use Rattle.machine.proofs.Lists.{each_append}

@@ -1,17 +1,17 @@
 -- The words up to one that ends them: what they are, and how they are read back.
-use Rattle.std.proofs.Common.{◌≡◌, ℕ, zero, suc, ◌+◌, ◌-◌, ◌*◌, ◌/◌, ◌%◌, ◌<◌, ◌≤◌, Bool, true, false, cond, ◌&&◌, eqb, ltb, leb, ◌⊎◌, List, [], ◌∷◌, ◌++◌, map, length, get_or, take, drop, sym, refl, ap, ◌∙◌, subst, inl, inr, ⊎_elim, arith}
+use Rattle.std.proofs.Common.{◌≡◌, ℕ, zero, suc, ◌+◌, ◌-◌, ◌<◌, true, false, cond, eqb, List, [], ◌∷◌, ◌++◌, map, length, get_or, take, drop, sym, refl, ap, ◌∙◌, subst, ⊎_elim, arith}
 use Rattle.std.proofs.lemmas.List.{append-nil, append_assoc, take_at, drop_at, drop-drop, get_or_at, get_or-drop, length_push}
 use Rattle.std.proofs.lemmas.Bool.{ltb-true, leb-false, cond_both}
 use Rattle.expression.specs.declared.item.Item.{Item}
-use Rattle.expression.specs.declared.item.Item.TheVariants.{Constant, Register, Input, Symbol, Sum, Difference, Product, Negation}
+use Rattle.expression.specs.declared.item.Item.TheVariants.{Sum, Difference, Product, Negation}
 use Rattle.expression.specs.Words.{kind, number, operation, item, item_of, item_word}
 use Rattle.expression.proofs.WordsBack.{word_back}
 use Rattle.machine.specs.declared.head.Head.{Head}
-use Rattle.machine.specs.Answer.{Answer, good, refused, ◌then◌, check}
+use Rattle.machine.specs.Answer.{good}
 use Rattle.machine.specs.Words.{bound, legal, ends, ending, word, part, table_limits}
 use Rattle.machine.specs.Machine.{Each}
 use Rattle.machine.specs.Sound.{ItemStands}
-use Rattle.machine.specs.Reading.{Part, part_of, parts}
+use Rattle.machine.specs.Reading.{part_of, parts}
 use Rattle.machine.proofs.Chains.{refused_good, good_same, check_good, cond_good}
 
 by_kind : (P : ℕ → Type 0) (k : ℕ) → k < 6 → P 0 → P 1 → P 2 → P 3 → P 4 → P 5 → P k

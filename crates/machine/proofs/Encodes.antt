@@ -1,5 +1,5 @@
 -- An accepted table is the words of its machine, and its machine is sound.
-use Rattle.std.proofs.Common.{◌≡◌, ℕ, zero, suc, ◌+◌, ◌-◌, ◌*◌, ◌/◌, ◌%◌, ◌<◌, ◌≤◌, Bool, true, false, cond, not, ◌&&◌, eqb, ltb, leb, ◌⊎◌, List, [], ◌∷◌, ◌++◌, map, length, get_or, take, drop, set, is_some, Some, None, sym, refl, ap, ◌∙◌, subst, inl, inr, ⊎_elim, arith}
+use Rattle.std.proofs.Common.{◌≡◌, ℕ, zero, suc, ◌+◌, ◌-◌, ◌*◌, ◌/◌, ◌%◌, ◌<◌, ◌≤◌, Bool, true, false, cond, eqb, leb, List, [], ◌∷◌, ◌++◌, map, length, get_or, take, drop, set, is_some, Some, None, sym, refl, ap, ◌∙◌, subst, ⊎_elim, arith}
 use Rattle.std.specs.List.{flat_map}
 use Rattle.std.proofs.lemmas.List.{append-nil, append_assoc, map-append, take-append-drop, take_at, nil_from_length, length-append, length-set, flat_map_more, drop_all}
 use Rattle.std.proofs.lemmas.Bool.{leb-true, eqb-true, and_parts, or_cases}
@@ -10,9 +10,9 @@ use Rattle.expression.specs.Shape.{is_expression, split}
 use Rattle.machine.specs.declared.head.Head.{Head}
 use Rattle.machine.specs.Answer.{Answer, good, refused, ◌then◌}
 use Rattle.machine.specs.Words.{ends, ending, word, part, counts, good_counts, head_of, table_limits}
-use Rattle.machine.specs.Machine.{Action, store, emit, Transition, Row, straight, branch, Machine, Each}
-use Rattle.machine.specs.Sound.{ItemStands, ExpressionStands, ActionStands, StoresOnce, TransitionStands, RowStands, SoundMachine, Counted}
-use Rattle.machine.specs.Reading.{fresh, acts, marked, closing, transition, row, rows, table, machine, Part, stores, emits, tests, goes, part_of, parts, acting, transition_of, behind, row_of, cut, row_part, meant, first_rows, machine_of}
+use Rattle.machine.specs.Machine.{Action, store, emit, Transition, Row, straight, branch, Each}
+use Rattle.machine.specs.Sound.{ExpressionStands, ActionStands, StoresOnce, TransitionStands, RowStands, SoundMachine, Counted}
+use Rattle.machine.specs.Reading.{fresh, acts, marked, closing, transition, row, rows, table, Part, tests, goes, part_of, parts, acting, transition_of, behind, row_of, cut, row_part, meant, first_rows, machine_of}
 use Rattle.machine.specs.Encode.{action_words, transition_words, row_words, machine_words, ReadsBack, SoundTables}
 use Rattle.machine.proofs.Chains.{refused_good, good_same, then_good, cond_good, only_true}
 use Rattle.machine.proofs.Cuts.{cut_splits}

@@ -1,5 +1,5 @@
 -- The exit of a `?`: the fault goes on unchanged.
-use Rattle.std.proofs.Common.{◌≡◌, ℕ, IsErrAnd, IfOk, Ok, Err, Result, sym, refl, ◌∙◌}
+use Rattle.std.proofs.Common.{◌≡◌, IsErrAnd, IfOk, Result}
 use Rattle.std.proofs.lemmas.Result.{err_from_is_err_and}
 use Rattle.machine.specs.declared.table.TableFault.{TableFault}
 use Rattle.machine.specs.Answer.{Answer, refused}

@@ -1,9 +1,9 @@
 -- The flags of the registers that a transition has stored.
-use Rattle.std.proofs.Common.{◌≡◌, ℕ, zero, suc, ◌<◌, Bool, true, false, cond, not, ◌≢◌, List, [], ◌∷◌, length, get_or, set, sym, refl, ap, ◌∙◌, subst, ⊎_elim, arith}
+use Rattle.std.proofs.Common.{◌≡◌, ℕ, ◌<◌, Bool, true, false, not, ◌≢◌, List, [], ◌∷◌, length, get_or, set, sym, refl, ap, ◌∙◌, ⊎_elim, arith}
 use Rattle.std.proofs.lemmas.List.{get_or-set_same, get_or-set_other}
 use Rattle.std.proofs.lemmas.Bool.{cases_eq}
 use Rattle.machine.specs.Machine.{Action, store, emit}
-use Rattle.machine.specs.Sound.{Unstored, StoresOnce}
+use Rattle.machine.specs.Sound.{Unstored}
 
 -- no flag stands at a register that these actions store
 abbrev pub Unmarked : List Bool → List Action → Type 0

@@ -1,14 +1,13 @@
 -- A machine whose registers are all shared is equivalent to itself: runs from registers that agree on the shared ones do the same.
-use Rattle.std.proofs.Common.{◌≡◌, ℕ, zero, suc, ◌+◌, ◌<◌, ◌≤◌, Bool, true, false, cond, eqb, ◌≢◌, List, [], ◌∷◌, ◌++◌, length, get_or, Some, None, Option, unwrap_or, sym, refl, ap, ◌∙◌, subst, ap₂, arith}
-use Rattle.std.proofs.lemmas.Bool.{cond_both}
+use Rattle.std.proofs.Common.{◌≡◌, ℕ, zero, suc, ◌≤◌, Bool, true, false, cond, eqb, List, [], ◌∷◌, ◌++◌, length, Some, None, Option, unwrap_or, sym, refl, ap, ◌∙◌, ap₂, arith}
 use Rattle.domain.specs.Ring.{Ops}
 use Rattle.expression.specs.declared.item.Item.{Item}
 use Rattle.expression.specs.declared.item.Item.TheVariants.{Constant, Register, Input, Symbol, Sum, Difference, Product, Negation}
 use Rattle.expression.specs.Run.{Algebra, and_then, step, run, only, meaning}
 use Rattle.expression.specs.Values.{Bank, values, in_table, answer}
-use Rattle.machine.specs.Machine.{Machine, Action, store, emit, Transition, Row, straight, branch, row_at, chosen, Each}
-use Rattle.machine.specs.Sound.{ItemStands, ExpressionStands, ActionStands, RowStands, SoundMachine}
-use Rattle.machine.specs.Runs.{Outputs, Place, reset, stored, emits, turn_at, turn, taken, next, emitted, after, outputs, Returns, Rounds, no_round, round, Completes, Agree, Equivalent, Reflexive}
+use Rattle.machine.specs.Machine.{Machine, Action, store, emit, Row, straight, branch, row_at, chosen, Each}
+use Rattle.machine.specs.Sound.{ItemStands, ExpressionStands, ActionStands, RowStands}
+use Rattle.machine.specs.Runs.{Outputs, Place, reset, stored, emits, turn_at, turn, taken, next, emitted, after, outputs, Returns, Rounds, no_round, round, Agree, Equivalent, Reflexive}
 use Rattle.machine.proofs.Lists.{each_or, each_map}
 use Rattle.machine.proofs.Runs.{rounds_once}
 

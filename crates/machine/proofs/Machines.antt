@@ -1,5 +1,5 @@
 -- The rows of an accepted table, and the machine that it stands for.
-use Rattle.std.proofs.Common.{◌≡◌, ℕ, zero, suc, ◌+◌, ◌-◌, ◌<◌, ◌≤◌, Bool, true, false, cond, eqb, ltb, List, [], ◌∷◌, ◌++◌, length, get_or, drop, Some, None, Option, sym, refl, ap, ◌∙◌, subst, ⊎_elim, add-zero, add-suc, add-one, arith}
+use Rattle.std.proofs.Common.{◌≡◌, ℕ, zero, suc, ◌+◌, ◌-◌, ◌<◌, ◌≤◌, cond, eqb, ltb, List, [], ◌∷◌, length, get_or, drop, Some, None, Option, sym, refl, ap, ◌∙◌, subst, ⊎_elim, add-zero, add-suc, add-one, arith}
 use Rattle.std.proofs.lemmas.List.{length_push, get_or_push, get_or_append_left}
 use Rattle.std.proofs.lemmas.Bool.{cases_lt, cond-true, cond-false, lt-ltb, le-ltb, eqb-true}
 use Rattle.machine.specs.declared.head.Head.{Head}
@@ -7,7 +7,7 @@ use Rattle.machine.specs.declared.words.Limits.{Limits}
 use Rattle.machine.specs.declared.row.Row.{Row as View}
 use Rattle.machine.specs.Answer.{Answer, good, refused, ◌then◌}
 use Rattle.machine.specs.Words.{word, part, head_of, table_limits}
-use Rattle.machine.specs.Machine.{Row, Machine, straight, row_at}
+use Rattle.machine.specs.Machine.{Row, Machine, row_at}
 use Rattle.machine.specs.Reading.{longest, row, rows, headed, table, parts, row_of, under, table_row, row_part, meant, first_rows, machine_of}
 use Rattle.machine.specs.Views.{viewed, IsRow, Encodes}
 use Rattle.machine.proofs.Chains.{refused_good, good_same, then_good, only_true, only_false}

@@ -1,8 +1,8 @@
 -- One step of a reading, at the place i of the words.
-use Rattle.std.proofs.Common.{◌≡◌, ℕ, zero, suc, ◌+◌, ◌-◌, ◌<◌, ◌≤◌, Bool, true, false, cond, ◌&&◌, eqb, ltb, List, [], ◌∷◌, ◌++◌, length, get_or, take, drop, sym, refl, ◌∙◌, add-zero, add-suc, add-one, arith}
+use Rattle.std.proofs.Common.{◌≡◌, ℕ, zero, suc, ◌+◌, ◌-◌, ◌<◌, Bool, cond, ◌&&◌, ltb, List, [], ◌∷◌, ◌++◌, drop, sym, refl, ◌∙◌, add-zero, add-suc, add-one, arith}
 use Rattle.std.proofs.lemmas.Bool.{lt-ltb}
 use Rattle.machine.specs.declared.words.Limits.{Limits}
-use Rattle.machine.specs.Answer.{Answer, good, refused, ◌then◌}
+use Rattle.machine.specs.Answer.{good, refused, ◌then◌}
 use Rattle.machine.specs.Words.{ending, word, part}
 use Rattle.machine.specs.Reading.{acts, marked, closing, transition, row, rows, row_part, meant, first_rows}
 

@@ -1,7 +1,6 @@
 -- Reading the words of a table: the judgement, which stops at the first word that is refused, and the machine that accepted words stand for.
-use Rattle.std.specs.Prelude.{ℕ, zero, suc, ◌+◌, ◌-◌, Bool, true, false, cond, not, ◌&&◌, ◌||◌, List, [], ◌∷◌, ◌++◌, map, length, take, drop, replicate, is_some, Some, None, Option, Result, ◌==◌, nat_lt, slice_index_or, slice_set}
+use Rattle.std.specs.Prelude.{ℕ, zero, suc, ◌+◌, Bool, true, false, cond, not, ◌&&◌, ◌||◌, List, [], ◌∷◌, ◌++◌, map, length, take, drop, replicate, is_some, Some, None, Option, Result, ◌==◌, nat_lt, slice_index_or, slice_set}
 use Rattle.std.specs.Option.{unwrap_or}
-use Rattle.expression.specs.declared.item.Item.{Item}
 use Rattle.expression.specs.declared.test.Test.{Test}
 use Rattle.expression.specs.Words.{kind, number, item_of, test_of}
 use Rattle.expression.specs.Shape.{is_expression, split}
@@ -11,8 +10,8 @@ use Rattle.machine.specs.declared.words.WordFault.TheVariants as words
 use Rattle.machine.specs.declared.head.Head.{Head}
 use Rattle.machine.specs.declared.table.TableFault.{TableFault}
 use Rattle.machine.specs.declared.table.TableFault.TheVariants.{TooLong, Empty, BadHead, Forbidden, EndsEarly, LeftOver}
-use Rattle.machine.specs.Answer.{Answer, good, refused, ◌then◌, check, Figures, told_by}
-use Rattle.machine.specs.Words.{ends, ending, word, part, head_of, table_limits, word_figures}
+use Rattle.machine.specs.Answer.{Answer, good, refused, ◌then◌, Figures, told_by}
+use Rattle.machine.specs.Words.{ends, ending, word, part, head_of, table_limits}
 use Rattle.machine.specs.Machine.{Action, store, emit, Transition, Row, straight, branch, Machine}
 
 -- The longest table, in words, and the most actions of a transition.

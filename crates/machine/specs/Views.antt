@@ -1,9 +1,9 @@
 -- What a row view and its cursor stand for.
-use Rattle.std.specs.Prelude.{◌≡◌, ℕ, ◌+◌, ◌-◌, ◌<◌, ◌≤◌, Bool, true, false, cond, List, [], ◌∷◌, length, get_or, drop, Some, None, Option}
+use Rattle.std.specs.Prelude.{◌≡◌, ℕ, ◌+◌, ◌<◌, ◌≤◌, List, [], ◌∷◌, length, drop, Some, None, Option}
 use Rattle.machine.specs.declared.row.Row.{Row}
 use Rattle.machine.specs.declared.view.Part as declared
 use Rattle.machine.specs.declared.view.Part.TheVariants as variants
-use Rattle.machine.specs.Answer.{Answer, good, refused}
+use Rattle.machine.specs.Answer.{good}
 use Rattle.machine.specs.Words.{word, part}
 use Rattle.machine.specs.Machine.{Machine, row_at}
 use Rattle.machine.specs.Reading.{Part, stores, emits, tests, goes, part_of, parts, machine, row_of}

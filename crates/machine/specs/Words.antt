@@ -1,5 +1,5 @@
 -- Which words may stand where, and where what begins at a place ends.
-use Rattle.std.specs.Prelude.{ℕ, ◌+◌, ◌-◌, ◌/◌, ◌%◌, Bool, true, false, cond, ◌&&◌, List, [], ◌∷◌, Some, None, Option, Result, nat_le, nat_lt, slice_index, slice_range}
+use Rattle.std.specs.Prelude.{ℕ, ◌+◌, ◌/◌, ◌%◌, Bool, cond, ◌&&◌, List, [], ◌∷◌, Some, None, Option, Result, nat_le, nat_lt, slice_index, slice_range}
 use Rattle.expression.specs.Words.{kind, number}
 use Rattle.machine.specs.declared.words.Limits.{Limits}
 use Rattle.machine.specs.declared.words.WordFault.{WordFault}

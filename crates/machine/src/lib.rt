@@ -1,4 +1,6 @@
 // Machines in tables of words: when words are a table, the rows of a table read back, and in specs/ what a machine does.
+#![tactic(auto)]
+
 pub mod head;
 pub mod laws;
 pub mod row;

@@ -1,4 +1,6 @@
 // Tables judged at each limit and one past it, and the rows of one read back; what is printed is held to the file stdout.
+#![tactic(auto)]
+
 mod cases;
 mod rows;
 

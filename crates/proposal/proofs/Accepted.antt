@@ -1,15 +1,13 @@
 -- What an accepted pair or claim consists of.
-use Rattle.std.proofs.Common.{◌≡◌, ℕ, zero, suc, ◌+◌, ◌/◌, ◌%◌, ◌^◌, ◌<◌, ◌≤◌, Bool, true, false, cond, not, ◌&&◌, ◌||◌, eqb, ltb, leb, List, [], ◌∷◌, map, length, get_or, sym, refl, ap, ◌∙◌, subst, ⊎_elim, arith}
+use Rattle.std.proofs.Common.{◌≡◌, ℕ, ◌^◌, ◌<◌, ◌≤◌, Bool, true, ◌&&◌, eqb, ltb, leb, List, [], length, get_or, sym, refl, ap, ◌∙◌, subst, ⊎_elim, arith}
 use Rattle.std.proofs.lemmas.Bool.{and_parts, eqb-true, ltb-true, leb-true}
-use Rattle.expression.specs.declared.item.Item.{Item}
 use Rattle.expression.specs.Words.{kind, number}
-use Rattle.machine.specs.declared.words.Limits.{Limits}
 use Rattle.machine.specs.declared.head.Head.{Head}
-use Rattle.machine.specs.Answer.{Answer, good, refused, ◌then◌, check}
+use Rattle.machine.specs.Answer.{Answer, good, ◌then◌, check}
 use Rattle.machine.specs.Words.{word}
 use Rattle.machine.proofs.Chains.{good_same, then_good, check_good, cond_good}
-use Rattle.proposal.specs.Proposal.{Fact, Pair, Claim, live, infeasible}
-use Rattle.proposal.specs.Reading.{Read, read, word_at, no_more, all_stored, bits, due, count_from, proposal_limits, HeadOfPair, pair_head, is_state, read_pair_head, symbols_exist, read_mask, registers_of, read_facts, read_body, read_pair, HeadOfClaim, read_claim_head, read_path, Proposed, read_live, read_infeasible, read_claim, is_filed_pair}
+use Rattle.proposal.specs.Proposal.{Pair, live, infeasible}
+use Rattle.proposal.specs.Reading.{read, word_at, no_more, all_stored, bits, due, count_from, proposal_limits, HeadOfPair, pair_head, is_state, read_pair_head, symbols_exist, read_mask, registers_of, read_facts, read_body, read_pair, HeadOfClaim, read_claim_head, read_path, Proposed, read_live, read_infeasible, read_claim, is_filed_pair}
 use Rattle.proposal.specs.Parts.{mask_of, PairParts, PairRead, LiveParts, LiveRead}
 use Rattle.proposal.proofs.Chain.{then_assoc}
 use Rattle.proposal.proofs.Bodies.{facts_counted}

@@ -1,15 +1,13 @@
 -- What is left of the reading of a pair where only its counts are told.
-use Rattle.std.proofs.Common.{◌≡◌, ℕ, zero, suc, ◌+◌, ◌^◌, ◌<◌, Bool, true, false, ◌&&◌, ◌||◌, eqb, ltb, leb, List, [], ◌∷◌, length, sym, refl, ap, ◌∙◌}
-use Rattle.expression.specs.declared.item.Item.{Item}
+use Rattle.std.proofs.Common.{◌≡◌, ℕ, zero, suc, ◌^◌, Bool, true, false, ◌&&◌, eqb, ltb, leb, List, [], ◌∷◌, length, sym, refl, ap, ◌∙◌}
 use Rattle.expression.specs.Words.{kind, number}
 use Rattle.machine.specs.declared.words.Limits.{Limits}
 use Rattle.machine.specs.declared.head.Head.{Head}
 use Rattle.machine.specs.Answer.{Answer, good, refused, ◌then◌, check}
 use Rattle.machine.proofs.Chains.{then_good, good_same}
-use Rattle.proposal.specs.declared.pair.PairHead.{PairHead}
-use Rattle.proposal.specs.Proposal.{Fact, Pair}
+use Rattle.proposal.specs.Proposal.{Fact}
 use Rattle.proposal.specs.Reading.{Read, read, word_at, no_more, all_stored, bits, due, proposal_limits, HeadOfPair, pair_head, is_state, read_pair_head, symbols_exist, read_mask, registers_of, read_fact, read_facts, read_body, read_pair}
-use Rattle.proposal.specs.Places.{behind, mask_word, body_places, head_of, head_of_pair, the_counts, head_told, pair_limits, body_head}
+use Rattle.proposal.specs.Places.{behind, mask_word, body_places, head_of, head_of_pair, the_counts, head_told, body_head}
 use Rattle.proposal.proofs.Chain.{then_assoc, then_same}
 
 -- as many facts are read as are counted

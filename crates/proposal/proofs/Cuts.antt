@@ -1,12 +1,12 @@
 -- What a place that ends something is good for, where the words were read.
-use Rattle.std.proofs.Common.{◌≡◌, ℕ, zero, suc, ◌+◌, ◌-◌, ◌/◌, ◌<◌, ◌≤◌, Bool, true, false, cond, ◌&&◌, eqb, ltb, List, [], ◌∷◌, map, length, take, drop, is_some, sym, refl, ap, ◌∙◌, subst, ⊎_elim, arith, length-drop, length-take}
+use Rattle.std.proofs.Common.{◌≡◌, ℕ, ◌+◌, ◌-◌, ◌/◌, ◌<◌, ◌≤◌, true, ◌&&◌, eqb, ltb, List, [], ◌∷◌, map, length, take, drop, is_some, sym, ap, ◌∙◌, subst, ⊎_elim, arith, length-drop, length-take}
 use Rattle.std.proofs.lemmas.Bool.{and_parts, eqb-true, lt-ltb, cond-true, cond-false}
 use Rattle.std.proofs.lemmas.List.{take-take, drop-drop, drop-take}
 use Rattle.expression.specs.declared.item.Item.{Item}
 use Rattle.expression.specs.Words.{kind, number, item_of, test_of}
 use Rattle.expression.specs.Shape.{is_expression, split}
 use Rattle.machine.specs.declared.words.Limits.{Limits}
-use Rattle.machine.specs.Answer.{Answer, good, refused, ◌then◌, check, numbered}
+use Rattle.machine.specs.Answer.{Answer, good, refused, ◌then◌, numbered}
 use Rattle.machine.specs.Words.{legal, ends, ending, word, part}
 use Rattle.machine.specs.Reading.{cut}
 use Rattle.machine.proofs.Chains.{refused_good, good_same, then_good, check_good, cond_good}

@@ -1,8 +1,8 @@
 -- One more fact of a row of them.
-use Rattle.std.proofs.Common.{◌≡◌, ℕ, zero, suc, ◌+◌, ◌-◌, ◌<◌, List, [], ◌∷◌, refl, arith}
+use Rattle.std.proofs.Common.{◌≡◌, ℕ, suc, ◌+◌, ◌-◌, ◌<◌, List, ◌∷◌, arith}
 use Rattle.machine.specs.declared.words.Limits.{Limits}
-use Rattle.machine.specs.Answer.{Answer, good, refused, ◌then◌}
-use Rattle.proposal.specs.Reading.{Read, read, read_fact, read_facts}
+use Rattle.machine.specs.Answer.{good, ◌then◌}
+use Rattle.proposal.specs.Reading.{read_fact, read_facts}
 use Rattle.proposal.specs.Places.{behind}
 use Rattle.proposal.proofs.Chain.{behind_both}
 

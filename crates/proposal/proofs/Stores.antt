@@ -1,9 +1,9 @@
 -- One more expression of a row of them.
-use Rattle.std.proofs.Common.{◌≡◌, ℕ, zero, suc, ◌+◌, ◌-◌, ◌^◌, ◌<◌, List, [], ◌∷◌, refl, ap, ◌∙◌, add-one, arith}
+use Rattle.std.proofs.Common.{◌≡◌, ℕ, suc, ◌+◌, ◌-◌, ◌^◌, ◌<◌, List, [], ◌∷◌, refl, ap, ◌∙◌, add-one, arith}
 use lib.Count.{count_trailing_zeros}
 use Rattle.machine.specs.declared.words.Limits.{Limits}
-use Rattle.machine.specs.Answer.{Answer, good, refused, ◌then◌}
-use Rattle.proposal.specs.Reading.{Read, read, stored, all_stored, count_from, bits, due}
+use Rattle.machine.specs.Answer.{good, ◌then◌}
+use Rattle.proposal.specs.Reading.{stored, all_stored, count_from, bits, due}
 use Rattle.proposal.specs.Places.{behind}
 use Rattle.proposal.proofs.Chain.{behind_both}
 use Rattle.proposal.proofs.Walk.{cleared, due_lowest, due_none}

@@ -1,5 +1,5 @@
 -- The ones of a mask, walked from the lowest on: each is the lowest one of what is left, and is cleared.
-use Rattle.std.proofs.Common.{◌≡◌, ℕ, zero, suc, ◌+◌, ◌-◌, ◌*◌, ◌/◌, ◌%◌, ◌^◌, ◌<◌, ◌≤◌, min, ◌⊎◌, List, [], ◌∷◌, sym, refl, ap, ◌∙◌, subst, inl, inr, ⊎_elim, pow-suc, arith}
+use Rattle.std.proofs.Common.{◌≡◌, ℕ, zero, suc, ◌+◌, ◌-◌, ◌*◌, ◌/◌, ◌%◌, ◌^◌, ◌<◌, ◌⊎◌, [], ◌∷◌, refl, ap, ◌∙◌, subst, inl, inr, ⊎_elim, pow-suc, arith}
 use lib.Bits.{bit_and, and_step, and_self, and_le_l}
 use lib.Count.{ones, ones_step, count_trailing_zeros}
 use Rattle.std.proofs.lemmas.Bool.{cases_eq}

@@ -7,7 +7,7 @@ use Rattle.proposal.specs.declared.claim.Claim as declared
 use Rattle.proposal.specs.declared.claim.Claim.TheVariants as variants
 use Rattle.proposal.specs.declared.fault.ClaimFault.{ClaimFault}
 use Rattle.proposal.specs.Proposal.{Claim, live, infeasible}
-use Rattle.proposal.specs.Reading.{bits, word_at, HeadOfClaim, read_path, Proposed, read_claim}
+use Rattle.proposal.specs.Reading.{bits, word_at, HeadOfClaim, read_path, Proposed}
 use Rattle.proposal.specs.Places.{claim_told}
 
 -- The turns of a path; `true` is yes.

@@ -1,5 +1,5 @@
 -- Going through the words of a pair or claim that was read: where the next expression or fact ends, and what that place is good for.
-use Rattle.std.specs.Prelude.{◌≡◌, ℕ, suc, ◌+◌, ◌/◌, ◌<◌, ◌≤◌, Bool, true, false, cond, List, [], ◌∷◌, map, length, drop, ◌==◌, nat_lt}
+use Rattle.std.specs.Prelude.{◌≡◌, ℕ, suc, ◌+◌, ◌/◌, ◌<◌, ◌≤◌, true, false, cond, List, [], ◌∷◌, map, length, drop, ◌==◌, nat_lt}
 use Rattle.expression.specs.declared.item.Item.{Item}
 use Rattle.expression.specs.declared.test.Test.TheVariants.{Same}
 use Rattle.expression.specs.Words.{kind, number, item_of, test_of}

@@ -2,11 +2,10 @@
 use Rattle.std.specs.Prelude.{◌≡◌, ℕ, ◌^◌, ◌<◌, ◌≤◌, Bool, true, List, length, slice_index}
 use Rattle.expression.specs.declared.item.Item.{Item}
 use Rattle.expression.specs.Words.{number}
-use Rattle.machine.specs.declared.words.Limits.{Limits}
 use Rattle.machine.specs.declared.head.Head.{Head}
 use Rattle.machine.specs.Answer.{good}
 use Rattle.machine.specs.Words.{word}
-use Rattle.proposal.specs.Proposal.{Pair, Claim, live}
+use Rattle.proposal.specs.Proposal.{Pair, live}
 use Rattle.proposal.specs.Reading.{read, all_stored, read_facts, bits, due, count_from, proposal_limits, is_state, registers_of, read_pair, Proposed, read_claim}
 
 -- The mask of a machine, which stands at a place.

@@ -5,7 +5,7 @@ use Rattle.expression.specs.declared.item.Item.TheVariants.{Symbol}
 use Rattle.expression.specs.Words.{kind, number, item_of, test_of}
 use Rattle.expression.specs.Shape.{is_expression, split}
 use Rattle.machine.specs.declared.words.Limits.{Limits}
-use Rattle.machine.specs.Answer.{Answer, good, refused, ◌then◌, check, numbered}
+use Rattle.machine.specs.Answer.{Answer, good, ◌then◌, check, numbered}
 use Rattle.machine.specs.Words.{ending, word, part}
 use Rattle.machine.specs.Reading.{cut}
 use Rattle.machine.specs.declared.head.Head.{Head}

@@ -1,4 +1,6 @@
 // Pairs and claims of a proposed correspondence, read from words.
+#![tactic(auto)]
+
 pub mod claim;
 pub mod cursor;
 pub mod facts;

@@ -1,4 +1,6 @@
 // Files of a comparison taken apart into records, and the lines that are printed.
+#![tactic(auto)]
+
 pub mod file;
 pub mod line;
 pub mod printing;

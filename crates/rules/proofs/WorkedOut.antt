@@ -1,5 +1,5 @@
 -- An expression of a proposal over the slots.
-use Rattle.std.proofs.Common.{◌≡◌, ℕ, List, None, refl, ap, ap₂}
+use Rattle.std.proofs.Common.{◌≡◌, ℕ, List, refl, ap₂}
 use mathlib.Core.Path.{fun_ext}
 use Rattle.domain.specs.Ring.{Ops}
 use Rattle.expression.specs.Run.{meaning}

@@ -1,7 +1,6 @@
 -- A pair as it is kept: by the words that were filed, of which pair 0 has none.
 use Rattle.std.specs.Prelude.{ℕ, ◌+◌, ◌-◌, ◌≤◌, Bool, true, false, cond, List, [], ◌∷◌, length, ◌==◌}
 use Rattle.expression.specs.Words.{number}
-use Rattle.machine.specs.declared.head.Head.{Head}
 use Rattle.machine.specs.Answer.{Answer, good, refused}
 use Rattle.proposal.specs.Proposal.{Pair, opening_pair}
 use Rattle.machine.specs.Words.{word}

@@ -1,5 +1,5 @@
 -- The rules of a claim: its checks in their order, each with the refusal that it meets.
-use Rattle.std.specs.Prelude.{ℕ, zero, suc, Bool, true, false, not, ◌&&◌, List, [], ◌∷◌, Some, None, Option, ◌==◌}
+use Rattle.std.specs.Prelude.{ℕ, suc, Bool, false, not, ◌&&◌, List, [], ◌∷◌, Some, None, Option, ◌==◌}
 use Rattle.domain.specs.Ring.{Ops}
 use Rattle.expression.specs.declared.item.Item.{Item}
 use Rattle.expression.specs.Run.{and_then, meaning}

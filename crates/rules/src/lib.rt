@@ -1,4 +1,6 @@
 // The rules of a claim, judged over forms in slots.
+#![tactic(auto)]
+
 pub mod counts;
 pub mod ending;
 pub mod facts;

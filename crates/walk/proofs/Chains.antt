@@ -1,5 +1,5 @@
 -- Answers and options one after another, taken apart again.
-use Rattle.std.proofs.Common.{◌≡◌, ℕ, Bool, true, false, Some, None, Option, sym, refl, ap, ◌∙◌, arith}
+use Rattle.std.proofs.Common.{◌≡◌, ℕ, Bool, true, false, Some, None, Option, refl, arith}
 use Rattle.expression.specs.Run.{and_then}
 use Rattle.machine.specs.Answer.{Answer, good, refused, ◌then◌, check}
 use Rattle.walk.specs.Walk.{fits}

@@ -1,5 +1,5 @@
 -- A path followed to its end.
-use Rattle.std.proofs.Common.{◌≡◌, ℕ, zero, suc, ◌+◌, ◌-◌, ◌*◌, ◌<◌, ◌≤◌, Bool, true, false, ◌⊎◌, List, [], ◌∷◌, length, get_or, drop, Ok, Err, Result, sym, refl, ap, ◌∙◌, ap₂, inl, inr, arith}
+use Rattle.std.proofs.Common.{◌≡◌, ℕ, suc, ◌+◌, ◌-◌, ◌<◌, ◌≤◌, Bool, false, List, [], ◌∷◌, length, get_or, drop, Err, sym, refl, ap, ◌∙◌, inr, arith}
 use Rattle.std.proofs.lemmas.List.{at_drop_more, at_drop_all}
 use Rattle.domain.specs.Ring.{Ops}
 use Rattle.forms.specs.Forms.{Form}
@@ -14,7 +14,7 @@ use Rattle.walk.specs.Settled.{Known}
 use Rattle.walk.specs.Walk.{Track, step, walk, learn, must}
 use Rattle.walk.specs.Seen.{known_seen, LegalSide, KeptApart}
 use Rattle.walk.proofs.Learned.{known_kept}
-use Rattle.walk.specs.Taking.{There, table_machine, track_seen, Reached, reached, only_reached, beside, reached_seen, told_walk, SettledStep, KeptOtherSide}
+use Rattle.walk.specs.Taking.{There, table_machine, track_seen, Reached, reached, only_reached, beside, reached_seen, told_walk, KeptOtherSide}
 
 module _ {D : Type 0} (o : Ops D) (ask : ℕ → List (Known D) → Answer (Unit {0})) (m : Machine) where
   pub walk_done : (i : ℕ) (t : Track D) → walk o ask m i [] t ≡ good t

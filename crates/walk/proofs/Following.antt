@@ -1,22 +1,20 @@
 -- A walk is what the machine does.
-use Rattle.std.proofs.Common.{◌≡◌, ℕ, zero, suc, ◌<◌, ◌≤◌, Bool, true, false, cond, not, ◌&&◌, ◌||◌, eqb, ltb, ◌⊎◌, ◌↔◌, List, [], ◌∷◌, ◌++◌, length, get_or, set, Some, None, Option, unwrap_or, sym, refl, ap, ◌∙◌, subst, ap₂, inl, inr, append_assoc, append-nil, arith, length-set, get_or-set_other, get_or-set_same}
-use mathlib.Core.Bool.{false≢true}
+use Rattle.std.proofs.Common.{◌≡◌, ℕ, zero, suc, ◌<◌, Bool, true, cond, not, ◌&&◌, ◌||◌, eqb, ltb, ◌⊎◌, List, [], ◌∷◌, ◌++◌, length, get_or, set, Some, None, Option, unwrap_or, sym, refl, ap, ◌∙◌, subst, ap₂, inl, inr, append_assoc, append-nil, arith, length-set, get_or-set_other, get_or-set_same}
 use Rattle.std.proofs.lemmas.Bool.{and_parts, eqb-true, eqb-false, cond_both}
 use Rattle.domain.specs.Ring.{Ops, Laws}
 use Rattle.expression.specs.declared.item.Item.{Item}
-use Rattle.expression.specs.declared.test.Test.{Test}
-use Rattle.expression.specs.Run.{Algebra, meaning}
-use Rattle.expression.specs.Values.{Bank, values, in_table, in_proposal, answer}
+use Rattle.expression.specs.Run.{meaning}
+use Rattle.expression.specs.Values.{Bank, in_table, in_proposal, answer}
 use Rattle.forms.specs.Forms.{Form}
 use Rattle.forms.specs.Limited.{limited}
 use Rattle.forms.specs.Values.{Normal, value}
 use Rattle.forms.specs.Theorems.{Valued}
-use Rattle.machine.specs.Answer.{Answer, good, refused, ◌then◌, check}
-use Rattle.machine.specs.Machine.{Machine, Action, store, emit, Transition, Row, straight, branch, row_at, chosen, Each}
-use Rattle.machine.specs.Runs.{Place, Outputs, stored, emits, turn_at, turn, taken, next, emitted, turns, after, outputs}
+use Rattle.machine.specs.Answer.{Answer, good}
+use Rattle.machine.specs.Machine.{Machine, Action, store, emit, Row, straight, branch, row_at, chosen, Each}
+use Rattle.machine.specs.Runs.{Place, stored, emits, turn_at, turn, taken, next, emitted, turns, after, outputs}
 use Rattle.walk.specs.Settled.{Known, Holds, settled, all}
-use Rattle.walk.specs.Walk.{allows, is_last, in_order, Track, nth, fits, Acted, form_in_table, act, tested, step, walk, learn, must}
-use Rattle.walk.specs.Laws.{Match, values_of, Goes, At, PathCondition, FirstWalk, SecondWalk}
+use Rattle.walk.specs.Walk.{allows, is_last, in_order, Track, nth, Acted, form_in_table, act, tested, step, walk, learn, must}
+use Rattle.walk.specs.Laws.{Match, values_of, Goes, At, FirstWalk, SecondWalk}
 use Rattle.walk.proofs.Chains.{none_some, good_same, some_same, split, split_check, check_true, split_fits, split_some}
 use Rattle.walk.proofs.SettledLaw.{IsValue, Theory, settles}
 

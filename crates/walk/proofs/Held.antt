@@ -1,10 +1,10 @@
 -- The actions of a transition, read one by one.
-use Rattle.std.proofs.Common.{◌≡◌, ℕ, zero, suc, ◌+◌, ◌<◌, ◌≤◌, Bool, true, false, cond, ltb, ◌≢◌, ◌⊎◌, List, [], ◌∷◌, ◌++◌, map, length, get_or, set, Some, None, Option, sym, refl, ap, ◌∙◌, subst, ap₂, inl, inr, arith}
+use Rattle.std.proofs.Common.{◌≡◌, ℕ, ◌+◌, ◌<◌, Bool, true, false, cond, ltb, List, [], ◌∷◌, ◌++◌, length, set, Some, None, Option, sym, refl, ap, ◌∙◌, subst, ap₂, inl, inr, arith}
 use Rattle.domain.specs.Ring.{Ops}
 use Rattle.expression.specs.declared.item.Item.{Item}
 use Rattle.expression.specs.Run.{and_then}
 use Rattle.forms.specs.Forms.{Form}
-use Rattle.machine.specs.Machine.{Action, store, emit, Transition}
+use Rattle.machine.specs.Machine.{store, emit, Transition}
 use Rattle.machine.specs.Reading.{acting}
 use Rattle.walk.specs.declared.outputs.Outputs.{Outputs}
 use Rattle.walk.specs.declared.pending.Pending.{Pending}

@@ -1,10 +1,9 @@
 -- A test that becomes known, behind the others.
-use Rattle.std.proofs.Common.{◌≡◌, ℕ, zero, suc, ◌+◌, ◌*◌, ◌<◌, ◌≤◌, Bool, true, false, ◌≢◌, List, [], ◌∷◌, ◌++◌, length, get_or, set, sym, refl, ap, ◌∙◌, ap₂, arith}
+use Rattle.std.proofs.Common.{◌≡◌, ℕ, zero, suc, ◌+◌, ◌*◌, ◌<◌, ◌≤◌, false, ◌≢◌, List, [], ◌∷◌, ◌++◌, length, get_or, set, refl, ap, ◌∙◌, ap₂, arith}
 use Rattle.std.proofs.lemmas.List.{get_or-set_same, get_or-set_other}
 use Rattle.expression.specs.declared.test.Test.TheVariants.{Same}
 use Rattle.forms.specs.Forms.{Form}
 use Rattle.walk.specs.declared.known.Noted.{Noted}
-use Rattle.walk.specs.Settled.{Known}
 use Rattle.walk.specs.Seen.{noted_at, known_at, known_seen, at_hand, KeptBeforeKnown}
 
 module _ {D : Type 0} where

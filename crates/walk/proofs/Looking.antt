@@ -1,5 +1,5 @@
 -- Looking through the known tests one by one, and the parts of a settled test.
-use Rattle.std.proofs.Common.{◌≡◌, ℕ, suc, ◌+◌, ◌-◌, ◌<◌, Bool, true, ◌||◌, List, [], ◌∷◌, refl, ap, ◌∙◌, arith}
+use Rattle.std.proofs.Common.{◌≡◌, ℕ, suc, ◌+◌, ◌-◌, ◌<◌, Bool, ◌||◌, List, refl, ap, ◌∙◌, arith}
 use Rattle.domain.specs.Ring.{Ops}
 use Rattle.forms.specs.Forms.{Form, fixed}
 use Rattle.walk.specs.declared.known.Noted.{Noted}

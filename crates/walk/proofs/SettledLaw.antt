@@ -1,5 +1,5 @@
 -- Settled tests have their settled answers.
-use Rattle.std.proofs.Common.{◌≡◌, ℕ, Bool, true, false, ◌&&◌, ◌||◌, ◌⊎◌, List, [], ◌∷◌, Some, None, Option, sym, refl, ap, ◌∙◌, subst, ap₂, inl, inr}
+use Rattle.std.proofs.Common.{◌≡◌, ℕ, Bool, true, false, ◌||◌, List, [], ◌∷◌, Some, None, Option, sym, refl, ap, ◌∙◌, ap₂, inl, inr}
 use mathlib.Core.Bool.{beq, false≢true}
 use Rattle.std.proofs.lemmas.Bool.{and_parts, or_cases}
 use Rattle.domain.specs.Ring.{Ops, Laws}

@@ -1,14 +1,14 @@
 -- One step: its row, the test that it puts and the transition that it takes.
-use Rattle.std.proofs.Common.{◌≡◌, ℕ, zero, suc, ◌+◌, ◌*◌, ◌<◌, ◌≤◌, Bool, true, false, cond, ◌≢◌, ◌⊎◌, List, [], ◌∷◌, ◌++◌, length, get_or, IfOk, Some, None, Ok, Err, Option, Result, sym, refl, ap, ◌∙◌, subst, ap₂, inl, inr, arith}
+use Rattle.std.proofs.Common.{◌≡◌, ℕ, ◌+◌, ◌<◌, ◌≤◌, Bool, true, false, List, [], ◌∷◌, ◌++◌, length, get_or, IfOk, Some, None, Ok, Err, Option, Result, sym, refl, ap, ◌∙◌, subst, ap₂, inr, arith}
 use Rattle.domain.specs.Ring.{Ops}
 use Rattle.expression.specs.declared.test.Test.{Test}
 use Rattle.forms.specs.Forms.{Form}
 use Rattle.machine.specs.declared.row.Row as view
 use Rattle.machine.specs.Answer.{Answer, good, refused, ◌then◌, check}
-use Rattle.machine.specs.Machine.{Machine, Action, store, emit, Transition, Row, straight, branch, row_at, chosen, Each}
-use Rattle.machine.specs.Reading.{machine, row_of}
+use Rattle.machine.specs.Machine.{Action, store, emit, Transition, Row, straight, branch, row_at, chosen, Each}
+use Rattle.machine.specs.Reading.{row_of}
 use Rattle.machine.specs.Views.{ahead, IsRow}
-use Rattle.machine.specs.Sound.{ActionStands, TransitionStands, RowStands, SoundMachine}
+use Rattle.machine.specs.Sound.{ActionStands, TransitionStands, RowStands}
 use Rattle.machine.proofs.Encodes.{sound_tables}
 use Rattle.workspace.specs.Slots.{told}
 use Rattle.walk.specs.declared.known.KnownTests.{KnownTests}
@@ -16,7 +16,7 @@ use Rattle.walk.specs.declared.outputs.Outputs.{Outputs}
 use Rattle.walk.specs.declared.side.Side.{Side}
 use Rattle.walk.specs.Settled.{Known, settled, all}
 use Rattle.walk.specs.Walk.{Acted, Track, act, fits, form_in_table, tested, step, must}
-use Rattle.walk.specs.Seen.{kept_seen, outputs_seen, known_seen, known_at, KeptBeforeKnown, KeptApart, LegalSide}
+use Rattle.walk.specs.Seen.{kept_seen, outputs_seen, known_seen, KeptBeforeKnown, KeptApart, LegalSide}
 use Rattle.walk.specs.Taking.{Readable, ReadableAction, ReadableRow, IsTable, There, GoesThere, table_machine, acted_seen, acted, put_seen, track_seen, told_over, reached_seen, only_reached, beside, KeptBelowTest, KeptOtherSide}
 use Rattle.walk.proofs.Following.{each_at}
 use Rattle.walk.proofs.Waiting.{kept_frame, outputs_frame}

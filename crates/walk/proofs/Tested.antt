@@ -1,5 +1,5 @@
 -- The two sides of a test, worked out one behind the other.
-use Rattle.std.proofs.Common.{◌≡◌, ℕ, ◌+◌, ◌<◌, ◌≤◌, Bool, ◌≢◌, List, [], ◌∷◌, get_or, Some, None, Option, sym, refl, ap, ◌∙◌, ap₂, arith}
+use Rattle.std.proofs.Common.{◌≡◌, ℕ, Bool, ◌≢◌, List, [], ◌∷◌, get_or, Some, None, ap, ◌∙◌, arith}
 use Rattle.domain.specs.Ring.{Ops}
 use Rattle.expression.specs.declared.item.Item.{Item}
 use Rattle.expression.specs.declared.test.Test.{Test}
@@ -8,7 +8,6 @@ use Rattle.forms.specs.Forms.{Form}
 use Rattle.machine.specs.Machine.{Transition, branch}
 use Rattle.workspace.specs.declared.leaves.Group.{Group}
 use Rattle.workspace.specs.Evaluation.{Below}
-use Rattle.walk.specs.Settled.{Known}
 use Rattle.walk.specs.Walk.{form_in_table, tested}
 use Rattle.walk.specs.Seen.{kept_seen, at_hand, KeptBut}
 use Rattle.walk.specs.Taking.{KeptBelowTest}

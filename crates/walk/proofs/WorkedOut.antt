@@ -1,8 +1,8 @@
 -- An expression of a table over the slots, and what its evaluation keeps.
-use Rattle.std.proofs.Common.{◌≡◌, ℕ, zero, suc, ◌+◌, ◌<◌, ◌≤◌, Bool, true, false, cond, ltb, ◌≢◌, List, [], ◌∷◌, map, length, get_or, take, set, IfOk, Some, None, Ok, Err, Option, Result, sym, refl, ap, ◌∙◌, ap₂, arith, length-take}
+use Rattle.std.proofs.Common.{◌≡◌, ℕ, zero, suc, ◌+◌, ◌<◌, ◌≤◌, ltb, List, [], length, get_or, take, set, IfOk, Some, None, Ok, Err, Option, Result, sym, refl, ap, ◌∙◌, ap₂, arith, length-take}
 use mathlib.Core.Path.{fun_ext}
 use Rattle.std.proofs.lemmas.List.{get_or-set_same, get_or-set_other, get_or-take}
-use Rattle.std.proofs.lemmas.Bool.{cond-true, cond-false, lt-ltb, le-ltb, cond_both, ltb-true, ltb-false}
+use Rattle.std.proofs.lemmas.Bool.{cond-false, le-ltb, cond_both, ltb-true, ltb-false}
 use Rattle.domain.specs.Ring.{Ops}
 use Rattle.expression.specs.Run.{meaning}
 use Rattle.expression.specs.declared.item.Item.{Item}

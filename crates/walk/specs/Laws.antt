@@ -1,10 +1,10 @@
 -- What a walk says of the machine.
-use Rattle.std.specs.Prelude.{◌≡◌, ℕ, ◌<◌, Bool, true, ◌↔◌, List, [], ◌∷◌, ◌++◌, length, slice_index_or}
+use Rattle.std.specs.Prelude.{◌≡◌, ℕ, ◌<◌, Bool, ◌↔◌, List, [], ◌∷◌, ◌++◌, length, slice_index_or}
 use Rattle.domain.specs.Ring.{Ops}
 use Rattle.expression.specs.Values.{Bank}
 use Rattle.forms.specs.Forms.{Form}
 use Rattle.forms.specs.Values.{Normal, value}
-use Rattle.machine.specs.Answer.{Answer, good}
+use Rattle.machine.specs.Answer.{good}
 use Rattle.machine.specs.Machine.{Machine, Each}
 use Rattle.machine.specs.Runs.{Place, Outputs, turns, after, outputs}
 use Rattle.walk.specs.Settled.{Known, Holds}

@@ -1,5 +1,5 @@
 -- What stands in the slots of a workspace: registers, outputs and known tests as lists.
-use Rattle.std.specs.Prelude.{◌≡◌, ℕ, zero, suc, ◌+◌, ◌*◌, ◌<◌, ◌≤◌, Bool, false, cond, ◌≢◌, ◌⊎◌, List, [], ◌∷◌, ◌++◌, length, Some, None, Option, Result, nat_lt, slice_index, slice_index_or, slice_set}
+use Rattle.std.specs.Prelude.{◌≡◌, ℕ, zero, suc, ◌+◌, ◌*◌, ◌<◌, ◌≤◌, false, cond, ◌≢◌, ◌⊎◌, List, [], ◌∷◌, ◌++◌, length, Some, None, Option, Result, nat_lt, slice_index, slice_index_or, slice_set}
 use Rattle.expression.specs.declared.test.Test.TheVariants.{Same}
 use Rattle.expression.specs.Run.{and_then}
 use Rattle.forms.specs.Forms.{Form}

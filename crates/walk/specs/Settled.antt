@@ -1,5 +1,5 @@
 -- When the answer of a test is settled: it is known, or decided.
-use Rattle.std.specs.Prelude.{◌≡◌, ℕ, Bool, true, false, ◌&&◌, ◌||◌, List, [], ◌∷◌, Some, None, Option}
+use Rattle.std.specs.Prelude.{◌≡◌, Bool, true, false, ◌&&◌, ◌||◌, List, [], ◌∷◌, Some, None, Option}
 use Rattle.std.specs.Bool.{beq}
 use Rattle.domain.specs.Ring.{Ops}
 use Rattle.expression.specs.declared.test.Test.{Test}

@@ -6,7 +6,7 @@ use Rattle.expression.specs.declared.test.Test.{Test}
 use Rattle.expression.specs.Shape.{is_expression}
 use Rattle.forms.specs.Forms.{Form}
 use Rattle.machine.specs.Answer.{Answer, good, refused}
-use Rattle.machine.specs.Machine.{Machine, Action, store, emit, Transition, Row, straight, branch, row_at, chosen, Each}
+use Rattle.machine.specs.Machine.{Machine, Action, store, emit, Transition, Row, straight, branch, chosen, Each}
 use Rattle.machine.specs.Reading.{machine}
 use Rattle.workspace.specs.Layout.{left_at}
 use Rattle.walk.specs.declared.fault.WalkFault.{WalkFault}

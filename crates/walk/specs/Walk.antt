@@ -6,7 +6,7 @@ use Rattle.expression.specs.Run.{and_then, meaning}
 use Rattle.forms.specs.Forms.{Form}
 use Rattle.forms.specs.Limited.{limited}
 use Rattle.machine.specs.Answer.{Answer, good, refused, ◌then◌, check}
-use Rattle.machine.specs.Machine.{Machine, Action, store, emit, Transition, Row, straight, branch, row_at, chosen}
+use Rattle.machine.specs.Machine.{Machine, Action, store, emit, Row, straight, branch, row_at, chosen}
 use Rattle.walk.specs.Settled.{Known, settled, all}
 
 -- Before any value: a turn no at a straight row, or a step into state 0 before the last, is impossible (12).

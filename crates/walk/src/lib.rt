@@ -1,4 +1,6 @@
 // Paths followed by forward substitution: path condition, data transformation and outputs as normal forms.
+#![tactic(auto)]
+
 pub mod fault;
 pub mod known;
 pub mod laws;

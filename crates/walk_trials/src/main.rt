@@ -1,4 +1,6 @@
 // The loop counter walked along each of its paths, and its second table beside it; the printed lines are compared with the stored output.
+#![tactic(auto)]
+
 ghost use Rattle.std.specs.Prelude.{◌+◌, ◌<◌, ◌≤◌};
 ghost use Rattle.workspace.specs.Layout.{slot_count};
 

@@ -1,9 +1,9 @@
 -- Two forms in the slots of a test.
-use Rattle.std.proofs.Common.{◌≡◌, ℕ, ◌+◌, ◌<◌, ◌≤◌, Bool, true, false, ltb, ◌≢◌, List, [], ◌∷◌, length, get_or, take, set, Some, None, Ok, Err, Option, Result, sym, refl, ap, ◌∙◌, arith, length-take}
+use Rattle.std.proofs.Common.{◌≡◌, ℕ, ◌+◌, ◌≤◌, Bool, true, false, ltb, ◌≢◌, List, [], length, get_or, take, set, Some, None, Ok, Err, Option, Result, sym, refl, ap, ◌∙◌, arith, length-take}
 use Rattle.std.proofs.lemmas.List.{get_or-set_same, get_or-set_other, get_or-take, take-take, take-set-le}
 use Rattle.std.proofs.lemmas.Bool.{cond-false, le-ltb, true≢false}
 use Rattle.domain.specs.Ring.{Ops, Laws}
-use Rattle.expression.specs.Run.{Algebra, meaning}
+use Rattle.expression.specs.Run.{meaning}
 use Rattle.expression.specs.declared.item.Item.{Item}
 use Rattle.workspace.specs.declared.leaves.Leaves.{Leaves}
 use Rattle.forms.specs.Forms.{Form, symbol_form, same_form}

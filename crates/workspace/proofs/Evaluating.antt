@@ -1,5 +1,5 @@
 -- An expression on the way.
-use Rattle.std.proofs.Common.{◌≡◌, ℕ, zero, suc, ◌+◌, ◌-◌, ◌<◌, ◌≤◌, Bool, true, ◌&&◌, eqb, leb, List, [], ◌∷◌, map, length, get_or, take, drop, set, Some, None, Option, sym, refl, ap, ◌∙◌, arith}
+use Rattle.std.proofs.Common.{◌≡◌, ℕ, zero, suc, ◌+◌, ◌-◌, ◌<◌, ◌≤◌, true, ◌&&◌, eqb, leb, List, [], ◌∷◌, map, length, get_or, take, drop, set, Some, None, Option, sym, refl, ap, ◌∙◌, arith}
 use Rattle.std.proofs.lemmas.List.{drop_more, drop_all, take-take}
 use Rattle.std.proofs.lemmas.Bool.{and_parts, leb-true, eqb-true}
 use Rattle.expression.specs.Run.{Algebra, and_then, step, run, only, meaning}
@@ -8,7 +8,6 @@ use Rattle.expression.specs.Shape.{lands, is_expression}
 use Rattle.expression.specs.declared.item.Item.{Item}
 use Rattle.workspace.specs.Slots.{give}
 use Rattle.workspace.specs.Evaluation.{Stands, stack}
-use Rattle.workspace.proofs.Stack.{stack_more}
 
 -- the words from i on are left, with d values on the stack
 pub record Evaluating {X : Type 0} (g : Algebra (List X)) (base fs : List (List X)) (ws : List ℕ) (i d : ℕ) : Type 0 where

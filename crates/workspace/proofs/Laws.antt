@@ -1,9 +1,8 @@
 -- Writing a slot is `set` in the list of forms; writing behind the slots changes none.
-use Rattle.std.proofs.Common.{◌≡◌, ℕ, zero, suc, ◌+◌, ◌-◌, ◌*◌, ◌<◌, ◌≤◌, ◌≢◌, ◌⊎◌, List, [], ◌∷◌, ◌++◌, length, get_or, take, drop, set, replicate, sym, refl, ap, ◌∙◌, inl, inr, ⊎_elim, arith}
+use Rattle.std.proofs.Common.{◌≡◌, ℕ, zero, suc, ◌+◌, ◌*◌, ◌<◌, ◌≤◌, ◌≢◌, List, [], ◌∷◌, length, get_or, take, drop, set, replicate, sym, refl, ap, ◌∙◌, inl, inr, arith}
 use Rattle.std.proofs.lemmas.List.{drop-drop, ext_get_or, get_or-set_same, get_or-set_other, length-set, length-replicate}
 use Rattle.std.proofs.lemmas.Bool.{cases_order}
-use Rattle.forms.specs.Rows.{part, Within, Written, Kept}
-use Rattle.forms.specs.declared.span.Span.{Span}
+use Rattle.forms.specs.Rows.{part, Written, Kept}
 use Rattle.forms.proofs.Parts.{part_kept, part_written_at, written_kept}
 use Rattle.forms.proofs.Scaling.{part_above}
 use Rattle.workspace.specs.Slots.{slots, place, Ready}

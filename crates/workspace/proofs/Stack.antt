@@ -1,7 +1,7 @@
 -- The stack in the slots.
 use Rattle.std.proofs.Common.{◌≡◌, ℕ, zero, suc, ◌+◌, ◌-◌, ◌<◌, ◌≤◌, ◌≢◌, List, [], ◌∷◌, length, get_or, take, set, Some, None, Ok, Err, Option, Result, sym, refl, ap, ◌∙◌, arith}
 use Rattle.std.proofs.lemmas.List.{get_or-set_same, get_or-set_other, take-set-le}
-use Rattle.expression.specs.Run.{Algebra, and_then, pushed, on_one, on_two, step}
+use Rattle.expression.specs.Run.{Algebra, pushed, on_one, on_two, step}
 use Rattle.expression.specs.Words.{takes}
 use Rattle.expression.specs.declared.item.Item.{Item}
 use Rattle.workspace.specs.Slots.{told, give}

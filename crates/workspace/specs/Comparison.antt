@@ -1,5 +1,5 @@
 -- What a comparison of two expressions says.
-use Rattle.std.specs.Prelude.{ℕ, Bool, true, false, List, Some, None, Ok, Err, Option, Result}
+use Rattle.std.specs.Prelude.{Bool, true, false, List, Some, None, Ok, Err, Option, Result}
 use Rattle.domain.specs.Ring.{Ops}
 use Rattle.expression.specs.Run.{and_then, meaning}
 use Rattle.expression.specs.declared.item.Item.{Item}

@@ -1,5 +1,5 @@
 -- What the leaves of an expression stand for, and the stack on which it is worked out.
-use Rattle.std.specs.Prelude.{◌≡◌, ℕ, zero, suc, ◌+◌, ◌-◌, ◌<◌, ◌≤◌, cond, List, [], ◌∷◌, Some, None, Option, nat_lt, slice_index_or}
+use Rattle.std.specs.Prelude.{ℕ, zero, suc, ◌+◌, ◌-◌, ◌<◌, ◌≤◌, cond, List, [], ◌∷◌, Some, None, Option, nat_lt, slice_index_or}
 use Rattle.domain.specs.Ring.{Ops}
 use Rattle.expression.specs.Run.{Algebra}
 use Rattle.expression.specs.Words.{takes}

@@ -1,5 +1,5 @@
 -- Where forms are kept: slots of sixteen terms each, and room for a product behind them.
-use Rattle.std.specs.Prelude.{ℕ, ◌+◌, ◌*◌}
+use Rattle.std.specs.Prelude.{ℕ}
 
 -- the number of slots; those below the stack keep their forms while an expression is worked out
 abbrev pub slot_count : ℕ

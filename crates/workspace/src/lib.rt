@@ -1,4 +1,6 @@
 // A workspace of terms that the caller lends, the forms kept in it, and the evaluation of expressions to forms.
+#![tactic(auto)]
+
 mod arithmetic;
 mod evaluator;
 pub mod layout;

@@ -1,4 +1,4 @@
-use Rattle.std.proofs.Common.{◌≡◌, ◌∙◌}
+use Rattle.std.proofs.Common.{◌∙◌}
 use Rattle.proposal.specs.Claims.{turns_of}
 use Rattle.coverage.specs.Matching.{matches}
 use Rattle.coverage.proofs.Agreeing.{match_here, match_none, match_on}

@@ -1,4 +1,4 @@
-use Rattle.std.proofs.Common.{◌≡◌, true, cond, ◌&&◌, eqb, ltb, sym, ap, ◌∙◌, ap₂}
+use Rattle.std.proofs.Common.{◌≡◌, true, cond, ◌&&◌, eqb, ltb, sym, ap, ◌∙◌}
 use Rattle.std.proofs.lemmas.Bool.{eq-eqb}
 use Rattle.coverage.specs.Matching.{start_of, path_of, same_turns}
 use Rattle.coverage.proofs.Agreeing.{as_matches}

@@ -1,6 +1,5 @@
-use Rattle.std.proofs.Common.{◌≡◌, ◌<◌, ◌≤◌, true, false, length, get_or, take, Decides, sym, refl, ap, ◌∙◌, arith}
+use Rattle.std.proofs.Common.{◌≡◌, ◌<◌, ◌≤◌, true, false, length, get_or, Decides, sym, refl, ap, ◌∙◌, arith}
 use Rattle.std.proofs.lemmas.List.{get_or_read, take_all, take_more_same}
-use Rattle.std.proofs.lemmas.Bool.{true≢false}
 use Rattle.forms.proofs.Comparing.{same_by}
 use Rattle.forms.proofs.compare.same.Goals as goal
 

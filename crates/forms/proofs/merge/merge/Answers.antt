@@ -1,4 +1,4 @@
-use Rattle.std.proofs.Common.{◌≡◌, ◌≤◌, ◌∷◌, length, sym, refl, ap, ◌∙◌, arith}
+use Rattle.std.proofs.Common.{◌∷◌, sym, ap, ◌∙◌, arith}
 use Rattle.forms.specs.Forms.{added}
 use Rattle.forms.specs.Rows.{part}
 use Rattle.forms.proofs.Parts.{part_none}

@@ -1,10 +1,9 @@
-use Rattle.std.proofs.Common.{◌≡◌, refl}
+use Rattle.std.proofs.Common.{refl}
 use Rattle.domain.specs.Points.{DomainPoints}
 use Rattle.domain.specs.Fips.{byte_times, xtime}
 use Rattle.expression.specs.Run.{meaning}
 use Rattle.forms.specs.Monomials.{K, degree, times_word}
 use Rattle.forms.specs.Forms.{sum, difference, product, constant_form, variable}
-use Rattle.forms.specs.Points.{FormPoints}
 use Rattle.forms.proofs.points.points_hold.Goals as goal
 
 domain_points : DomainPoints

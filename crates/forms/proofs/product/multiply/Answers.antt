@@ -1,6 +1,5 @@
-use Rattle.std.proofs.Common.{◌≡◌, ◌+◌, ◌-◌, ◌*◌, ◌≤◌, ◌⊎◌, ◌∷◌, length, sym, refl, ap, ◌∙◌, inl, arith}
-use Rattle.forms.specs.Rows.{part, Within}
-use Rattle.forms.specs.Forms.{multiplied}
+use Rattle.std.proofs.Common.{inl, arith}
+use Rattle.forms.specs.Rows.{part}
 use Rattle.forms.proofs.Scaling.{length_sum, length_scaled}
 use Rattle.forms.proofs.Turns.{length_part, step_back, turn, length_turn}
 use Rattle.forms.proofs.product.multiply.Goals as goal

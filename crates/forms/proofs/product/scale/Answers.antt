@@ -1,6 +1,6 @@
-use Rattle.std.proofs.Common.{◌≡◌, ◌+◌, ◌≤◌, ◌∷◌, length, sym, refl, ap, ◌∙◌, arith}
-use Rattle.forms.specs.Rows.{part, Within}
-use Rattle.forms.proofs.Parts.{part_none, part_front, part_kept}
+use Rattle.std.proofs.Common.{◌+◌, ap, arith}
+use Rattle.forms.specs.Rows.{Within}
+use Rattle.forms.proofs.Parts.{part_none}
 use Rattle.forms.specs.Forms.{scaled}
 use Rattle.forms.proofs.Making.{start, skip, more, keeps, puts, step_kept}
 use Rattle.forms.proofs.Scaling.{scaled_stays, scaled_gone}

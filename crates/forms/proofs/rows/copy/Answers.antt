@@ -1,5 +1,5 @@
-use Rattle.std.proofs.Common.{◌≡◌, ◌+◌, ◌<◌, ◌≤◌, ◌⊎◌, ◌∷◌, length, sym, refl, ap, ◌∙◌, inl, inr, arith, rules}
-use Rattle.forms.specs.Rows.{part, Within}
+use Rattle.std.proofs.Common.{◌≡◌, ◌+◌, ◌<◌, ◌≤◌, ◌⊎◌, ◌∷◌, length, sym, ap, ◌∙◌, inl, inr, arith, rules}
+use Rattle.forms.specs.Rows.{part}
 use Rattle.forms.proofs.Parts.{part_none, part_front}
 use Rattle.forms.proofs.Making.{start, more, writes, puts, keeps, step_kept}
 use Rattle.forms.proofs.Scaling.{part_above}

@@ -1,6 +1,5 @@
-use Rattle.std.proofs.Common.{◌≡◌, ◌+◌, ◌<◌, ◌≤◌, ◌∷◌, length, sym, refl, ap, ◌∙◌, arith, rules}
+use Rattle.std.proofs.Common.{◌≡◌, ◌+◌, ◌<◌, ◌∷◌, length, sym, ap, ◌∙◌, arith, rules}
 use Rattle.forms.specs.Rows.{part, Within}
-use Rattle.forms.specs.declared.term.Term.{Term}
 use Rattle.forms.proofs.Parts.{part_none}
 use Rattle.forms.proofs.Making.{start, more, keeps, puts, step_kept}
 use Rattle.forms.specs.Forms.{negation}

@@ -1,4 +1,4 @@
-use Rattle.std.proofs.Common.{◌≡◌, refl}
+use Rattle.std.proofs.Common.{refl}
 use Rattle.expression.specs.Run.{meaning}
 use Rattle.expression.specs.Shape.{is_expression, split}
 use Rattle.expression.specs.Words.{item_of}

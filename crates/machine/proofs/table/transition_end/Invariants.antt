@@ -1,4 +1,4 @@
-use Rattle.std.proofs.Common.{◌≡◌, ◌-◌, ◌≤◌, length, drop}
+use Rattle.std.proofs.Common.{◌≡◌, ◌≤◌, length}
 use Rattle.machine.specs.Reading.{transition, fresh}
 use Rattle.machine.proofs.table.transition_end.Given as goal
 

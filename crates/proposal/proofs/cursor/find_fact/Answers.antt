@@ -1,4 +1,4 @@
-use Rattle.std.proofs.Common.{arith, rules}
+use Rattle.std.proofs.Common.{rules}
 use Rattle.proposal.proofs.Cuts.{cut_below}
 use Rattle.proposal.proofs.cursor.find_fact.Goals as goal
 

@@ -1,4 +1,4 @@
-use Rattle.std.proofs.Common.{◌≡◌, ◌^◌, ◌<◌, sym, refl, ap, ◌∙◌, arith, rules}
+use Rattle.std.proofs.Common.{◌^◌, ◌<◌, arith, rules}
 use lib.Count.{ones}
 use Rattle.proposal.proofs.Walk.{ones_positive, ones_cleared, no_ones, cleared_below}
 use Rattle.proposal.proofs.Stores.{masked_more, masked_end}

@@ -1,7 +1,7 @@
-use Rattle.std.proofs.Common.{◌≡◌, ◌<◌, [], ◌∷◌, ◌++◌, map, length, vec_items, sym, ap, ◌∙◌, subst, arith, rules}
+use Rattle.std.proofs.Common.{[], ◌∷◌, map, vec_items, sym, ap, ◌∙◌, rules}
 use Rattle.std.proofs.lemmas.List.{map-append}
 use Rattle.std.proofs.lemmas.Result.{err_from_is_err_and}
-use Rattle.records.specs.Files.{seen_part, seen_parts, seen_next, next, parts_of, Reads, before}
+use Rattle.records.specs.Files.{seen_part, seen_parts, seen_next, next, parts_of, before}
 use Rattle.records.proofs.Parts.{next_shorter, parts_more, parts_bad, parts_end, passed_on, some_words}
 use Rattle.records.proofs.reading.parts_of.Goals as goal
 

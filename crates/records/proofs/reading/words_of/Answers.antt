@@ -1,5 +1,4 @@
-use Rattle.std.proofs.Common.{◌≡◌, [], ◌∷◌, ◌++◌, vec_items, ap, ◌∙◌, arith, rules}
-use Rattle.records.specs.Files.{before, words_of}
+use Rattle.std.proofs.Common.{vec_items, arith, rules}
 use Rattle.records.proofs.Scanning.{words_more, words_end, words_bad}
 use Rattle.records.proofs.reading.words_of.Goals as goal
 

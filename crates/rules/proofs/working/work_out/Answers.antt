@@ -1,4 +1,4 @@
-use Rattle.std.proofs.Common.{◌≡◌, map, take, ap, ◌∙◌}
+use Rattle.std.proofs.Common.{map, take, ap, ◌∙◌}
 use Rattle.expression.specs.Words.{item_of}
 use Rattle.expression.specs.Run.{meaning}
 use Rattle.workspace.specs.Slots.{give}

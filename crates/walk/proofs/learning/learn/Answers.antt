@@ -1,4 +1,4 @@
-use Rattle.std.proofs.Common.{◌≡◌, refl, ◌∙◌, arith}
+use Rattle.std.proofs.Common.{refl, ◌∙◌}
 use Rattle.workspace.specs.Views.{forms}
 use Rattle.workspace.proofs.Laws.{length_slots}
 use Rattle.walk.proofs.Learned.{learned, learned_kept}

@@ -1,7 +1,7 @@
-use Rattle.std.proofs.Common.{◌≡◌, ◌+◌, ◌<◌, ◌≤◌, true, false, ◌&&◌, eqb, ltb, length, get_or, Some, None, sym, ◌∙◌, arith, rules}
+use Rattle.std.proofs.Common.{◌≡◌, ◌+◌, ◌<◌, ◌≤◌, true, false, ◌&&◌, eqb, ltb, length, get_or, Some, None, arith, rules}
 use Rattle.machine.specs.Machine.{row_at}
 use Rattle.walk.specs.Taking.{table_machine, allowed_target}
-use Rattle.walk.proofs.Ordered.{order_start, order_end, order_no_turn, order_reset, order_on, early, not_early}
+use Rattle.walk.proofs.Ordered.{order_end, order_no_turn, order_reset, order_on, early, not_early}
 use Rattle.walk.proofs.order.check_order.Goals as goal
 
 pub returns-in_default : goal.returns-in_default

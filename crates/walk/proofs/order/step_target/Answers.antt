@@ -1,4 +1,4 @@
-use Rattle.std.proofs.Common.{◌≡◌, ap, ◌∙◌}
+use Rattle.std.proofs.Common.{ap, ◌∙◌}
 use Rattle.machine.specs.Reading.{row_of}
 use Rattle.machine.specs.Views.{ahead}
 use Rattle.walk.specs.Taking.{allowed_target}

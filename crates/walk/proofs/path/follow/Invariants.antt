@@ -1,4 +1,3 @@
-use Rattle.std.proofs.Common.{drop}
 use Rattle.workspace.specs.Views.{forms}
 use Rattle.walk.proofs.Followed.{Following}
 use Rattle.walk.proofs.path.follow.Given as goal

@@ -1,4 +1,4 @@
-use Rattle.std.proofs.Common.{◌≡◌, sym, refl, ap, ◌∙◌}
+use Rattle.std.proofs.Common.{ap, ◌∙◌}
 use Rattle.machine.specs.Answer.{good}
 use Rattle.machine.specs.Reading.{transition_of, row_of}
 use Rattle.machine.specs.Views.{ahead}

@@ -1,4 +1,4 @@
-use Rattle.std.proofs.Common.{◌≡◌, ℕ, Ok, Err, Result, sym, refl, ap, ◌∙◌, rules}
+use Rattle.std.proofs.Common.{ℕ, Ok, Err, Result, ap, ◌∙◌, rules}
 use Rattle.std.proofs.lemmas.Result.{err_from_is_err_and}
 use Rattle.machine.specs.Reading.{transition_of, row_of}
 use Rattle.machine.specs.Views.{ahead}

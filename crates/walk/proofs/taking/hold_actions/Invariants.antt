@@ -2,8 +2,6 @@ use Rattle.std.proofs.Common.{length}
 use Rattle.machine.specs.Reading.{transition_of}
 use Rattle.machine.specs.Views.{ahead}
 use Rattle.workspace.specs.Views.{forms}
-use Rattle.walk.specs.Seen.{kept_seen}
-use Rattle.walk.specs.Walk.{form_in_table}
 use Rattle.walk.proofs.Held.{Holding}
 use Rattle.walk.proofs.taking.hold_actions.Given as goal
 

@@ -1,4 +1,4 @@
-use Rattle.std.proofs.Common.{◌≡◌, Some, sym, refl, ap, ◌∙◌}
+use Rattle.std.proofs.Common.{Some, ap, ◌∙◌}
 use Rattle.workspace.specs.Views.{forms}
 use Rattle.walk.proofs.Held.{made, made_apart}
 use Rattle.walk.proofs.taking.take_transition.Goals as goal

@@ -1,10 +1,10 @@
-use Rattle.std.proofs.Common.{◌≡◌, ◌+◌, ◌-◌, ◌<◌, ◌≤◌, List, [], ◌∷◌, length, get_or, Some, Ok, sym, refl, ap, ◌∙◌, arith}
+use Rattle.std.proofs.Common.{◌≡◌, Some, Ok, ap, ◌∙◌, arith}
 use Rattle.forms.specs.Forms as Forms
 use Rattle.expression.specs.Run.{step, pushed}
 use Rattle.expression.specs.Words.{takes}
 use Rattle.workspace.proofs.Laws.{length_slots}
 use Rattle.workspace.specs.Views.{forms, named}
-use Rattle.workspace.specs.Evaluation.{reading, symbol_forms, group_form, BelowSymbols}
+use Rattle.workspace.specs.Evaluation.{reading, symbol_forms, group_form}
 use Rattle.workspace.proofs.Stack.{leafed, changed, paired}
 use Rattle.workspace.proofs.evaluator.apply.Goals as goal
 

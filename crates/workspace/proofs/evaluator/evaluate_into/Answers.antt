@@ -1,4 +1,3 @@
-use Rattle.std.proofs.Common.{◌≡◌, sym, refl, ap, ◌∙◌}
 use Rattle.workspace.specs.Views.{forms}
 use Rattle.workspace.proofs.Evaluating.{placed}
 use Rattle.workspace.proofs.evaluator.evaluate_into.Goals as goal

@@ -1,5 +1,4 @@
-use Rattle.std.proofs.Common.{◌≡◌, [], set, sym, ap, ◌∙◌}
-use Rattle.forms.specs.declared.term.Term.{Term}
+use Rattle.std.proofs.Common.{[], set, sym, ap, ◌∙◌}
 use Rattle.forms.specs.Forms.{unless_zero}
 use Rattle.forms.proofs.Limits.{constant_is}
 use Rattle.workspace.specs.Slots.{slots}

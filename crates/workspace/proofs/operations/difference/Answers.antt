@@ -1,13 +1,13 @@
-use Rattle.std.proofs.Common.{◌≡◌, ◌+◌, ◌-◌, ◌*◌, ◌<◌, ◌≤◌, ◌⊎◌, [], length, get_or, set, None, sym, refl, ap, ◌∙◌, inl, inr, arith, rules}
-use Rattle.forms.specs.Rows.{part, Within}
+use Rattle.std.proofs.Common.{◌≡◌, [], get_or, sym, ap, ◌∙◌, arith}
+use Rattle.forms.specs.Rows.{part}
 use Rattle.forms.specs.Forms as Forms
 use Rattle.forms.proofs.Parts.{kept_then, part_kept}
 use Rattle.forms.proofs.Turns.{length_part}
 use Rattle.forms.proofs.Scaling.{length_sum}
 use Rattle.forms.specs.Forms.{negation}
 use Rattle.forms.proofs.Limits.{difference_is}
-use Rattle.workspace.specs.Slots.{slots, place, Ready, give}
-use Rattle.workspace.proofs.Steps.{length_inside, form_at, place_within, ready_kept, forms_kept, given, give_over, give_fits, settled, given_none, given_one, short, made_within, length_negation, length_product}
+use Rattle.workspace.specs.Slots.{slots, give}
+use Rattle.workspace.proofs.Steps.{form_at, place_within, ready_kept, settled, short, length_negation}
 use Rattle.workspace.proofs.operations.difference.Goals as goal
 
 pub merge-s-requires : goal.merge-s-requires

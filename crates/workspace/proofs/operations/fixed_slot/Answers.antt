@@ -1,4 +1,4 @@
-use Rattle.std.proofs.Common.{◌≡◌, sym, ap, ◌∙◌, arith}
+use Rattle.std.proofs.Common.{ap, ◌∙◌}
 use Rattle.forms.specs.Forms.{fixed}
 use Rattle.workspace.proofs.Steps.{form_at}
 use Rattle.workspace.proofs.operations.fixed_slot.Goals as goal

@@ -1,10 +1,8 @@
-use Rattle.std.proofs.Common.{◌≡◌, ◌+◌, ◌-◌, ◌*◌, ◌<◌, ◌≤◌, ◌⊎◌, [], length, get_or, set, None, sym, refl, ap, ◌∙◌, inl, inr, arith, rules}
-use Rattle.forms.specs.Rows.{part, Within}
-use Rattle.forms.specs.Forms as Forms
-use Rattle.forms.proofs.Scaling.{length_sum}
-use Rattle.forms.specs.Forms.{negation, top}
-use Rattle.workspace.specs.Slots.{slots, place, Ready, give}
-use Rattle.workspace.proofs.Steps.{length_inside, form_at, place_within, ready_kept, forms_kept, given, give_over, give_fits, settled, given_none, given_one, short, made_within, length_negation, length_product}
+use Rattle.std.proofs.Common.{set, ap, ◌∙◌, inl, arith}
+use Rattle.forms.specs.Rows.{part}
+use Rattle.forms.specs.Forms.{negation}
+use Rattle.workspace.specs.Slots.{slots}
+use Rattle.workspace.proofs.Steps.{form_at, ready_kept, forms_kept, short, made_within, length_negation}
 use Rattle.workspace.proofs.operations.negation.Goals as goal
 
 pub place_at-requires : goal.place_at-requires

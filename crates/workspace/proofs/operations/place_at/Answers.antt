@@ -1,7 +1,6 @@
-use Rattle.std.proofs.Common.{◌≡◌, ◌+◌, ◌-◌, ◌*◌, ◌<◌, ◌≤◌, ◌⊎◌, length, get_or, sym, refl, ap, ◌∙◌, inl, inr, arith, rules}
-use Rattle.forms.specs.Rows.{part, Within}
-use Rattle.workspace.specs.Slots.{slots, place, Ready, give}
-use Rattle.workspace.proofs.Steps.{length_inside, form_at, place_within, ready_kept, forms_kept, given, give_over, give_fits, settled, given_none, given_one, short, made_within, length_negation, length_product}
+use Rattle.std.proofs.Common.{◌-◌, sym}
+use Rattle.forms.specs.Rows.{part}
+use Rattle.workspace.proofs.Steps.{length_inside, given}
 use Rattle.workspace.proofs.operations.place_at.Goals as goal
 
 pub returns : goal.returns

@@ -1,11 +1,10 @@
-use Rattle.std.proofs.Common.{◌≡◌, ◌+◌, ◌-◌, ◌*◌, ◌<◌, ◌≤◌, ◌⊎◌, [], length, get_or, set, None, sym, refl, ap, ◌∙◌, inl, inr, arith, rules}
-use Rattle.forms.specs.Rows.{part, Within}
+use Rattle.std.proofs.Common.{[], get_or, sym, ap, ◌∙◌, arith}
+use Rattle.forms.specs.Rows.{part}
 use Rattle.forms.specs.Forms as Forms
-use Rattle.forms.proofs.Scaling.{length_sum}
 use Rattle.forms.specs.Forms.{top}
 use Rattle.forms.proofs.Limits.{k_is, product_fits, product_over}
-use Rattle.workspace.specs.Slots.{slots, place, Ready, give}
-use Rattle.workspace.proofs.Steps.{length_inside, form_at, place_within, ready_kept, forms_kept, given, give_over, give_fits, settled, given_none, given_one, short, made_within, length_negation, length_product}
+use Rattle.workspace.specs.Slots.{slots, give}
+use Rattle.workspace.proofs.Steps.{form_at, ready_kept, settled, short, made_within, length_product}
 use Rattle.workspace.proofs.operations.product.Goals as goal
 
 pub overflow_add-degree_at : goal.overflow_add-degree_at

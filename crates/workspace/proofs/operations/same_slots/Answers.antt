@@ -1,8 +1,8 @@
-use Rattle.std.proofs.Common.{◌≡◌, ◌+◌, ◌-◌, ◌*◌, ◌<◌, ◌≤◌, ◌⊎◌, [], length, get_or, sym, refl, ap, ◌∙◌, inl, inr, arith, rules}
+use Rattle.std.proofs.Common.{[], get_or, ap, ◌∙◌, arith}
 use Rattle.forms.specs.Forms.{same_form}
-use Rattle.forms.specs.Rows.{part, Within}
-use Rattle.workspace.specs.Slots.{slots, place, Ready, give}
-use Rattle.workspace.proofs.Steps.{length_inside, form_at, place_within, ready_kept, forms_kept, given, give_over, give_fits, settled, given_none, given_one, short, made_within, length_negation, length_product}
+use Rattle.forms.specs.Rows.{part}
+use Rattle.workspace.specs.Slots.{slots}
+use Rattle.workspace.proofs.Steps.{form_at}
 use Rattle.workspace.proofs.operations.same_slots.Goals as goal
 
 pub returns : goal.returns

@@ -1,7 +1,7 @@
-use Rattle.std.proofs.Common.{◌≡◌, ◌+◌, ◌-◌, ◌*◌, ◌<◌, ◌≤◌, ◌⊎◌, length, get_or, Some, sym, refl, ap, ◌∙◌, inl, inr, arith, rules}
-use Rattle.forms.specs.Rows.{part, Within}
-use Rattle.workspace.specs.Slots.{slots, place, Ready, give}
-use Rattle.workspace.proofs.Steps.{length_inside, form_at, place_within, ready_kept, forms_kept, given, give_over, give_fits, settled, given_none, given_one, short, made_within, length_negation, length_product}
+use Rattle.std.proofs.Common.{Some, ap, ◌∙◌, arith}
+use Rattle.forms.specs.Rows.{part}
+use Rattle.workspace.specs.Slots.{slots}
+use Rattle.workspace.proofs.Steps.{length_inside, give_over, give_fits}
 use Rattle.workspace.proofs.operations.settle.Goals as goal
 
 pub returns-then-s-gt-LIMIT : goal.returns-then-s-gt-LIMIT

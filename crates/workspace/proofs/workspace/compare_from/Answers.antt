@@ -1,10 +1,8 @@
-use Rattle.std.proofs.Common.{◌≡◌, ◌+◌, ◌-◌, ◌<◌, ◌≤◌, map, length, take, drop, sym, refl, ap, ◌∙◌, arith, length-drop, length-take, rules}
+use Rattle.std.proofs.Common.{◌-◌, map, length, take, drop, ◌∙◌, arith, length-drop, length-take, rules}
 use Rattle.std.proofs.lemmas.Slice.{overwrites}
 use Rattle.expression.specs.Words.{item_of}
-use Rattle.expression.specs.Run.{meaning}
-use Rattle.workspace.specs.Views.{forms, named}
-use Rattle.workspace.specs.Evaluation.{reading, Legal}
-use Rattle.workspace.specs.Comparison.{compared, own_leaves}
+use Rattle.workspace.specs.Evaluation.{Legal}
+use Rattle.workspace.specs.Comparison.{own_leaves}
 use Rattle.workspace.proofs.Laws.{ready_empty}
 use Rattle.workspace.proofs.Comparing.{own_compared, judged}
 use Rattle.workspace.proofs.workspace.compare_from.Goals as goal

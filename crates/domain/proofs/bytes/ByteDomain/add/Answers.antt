@@ -1,4 +1,3 @@
-use lib.Bits.{bit_xor}
 use Rattle.domain.specs.ByteLaws.{xor_id}
 use Rattle.domain.proofs.bytes.ByteDomain.add.Goals as goal
 

@@ -1,5 +1,5 @@
-use Rattle.std.proofs.Common.{◌≡◌, ℕ, ◌+◌, ◌<◌, ◌≤◌, sym, refl, ap, ◌∙◌, arith}
-use Rattle.forms.specs.Monomials.{K, filled, degree, first, rest}
+use Rattle.std.proofs.Common.{◌≡◌, ℕ, ◌+◌, ◌≤◌, sym, ◌∙◌, arith}
+use Rattle.forms.specs.Monomials.{K, filled, degree}
 use Rattle.forms.proofs.Digits.{filled_empty, filled_more}
 use Rattle.forms.proofs.monomial.Monomial.degree.Goals as goal
 use Rattle.forms.proofs.monomial.Monomial.degree.Goals.{then-word-ne0, else-word-ne0}

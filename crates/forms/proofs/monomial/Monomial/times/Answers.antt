@@ -1,5 +1,5 @@
-use Rattle.std.proofs.Common.{◌≡◌, ℕ, ◌+◌, ◌-◌, ◌*◌, ◌/◌, ◌%◌, ◌^◌, ◌<◌, ◌≤◌, sym, refl, ap, ◌∙◌, arith}
-use Rattle.forms.specs.Monomials.{K, merged_codes, times_word, first, rest}
+use Rattle.std.proofs.Common.{◌≡◌, ℕ, ◌+◌, ◌-◌, ◌*◌, ◌/◌, ◌<◌, ◌≤◌, sym, refl, ◌∙◌, arith}
+use Rattle.forms.specs.Monomials.{K, merged_codes, times_word}
 use Rattle.forms.proofs.Digits.{merged_left, merged_right, digit_more, pow_up}
 use Rattle.forms.proofs.monomial.Monomial.times.Goals as goal
 use Rattle.forms.proofs.monomial.Monomial.times.Goals.{then-d-c, else-d-c}

@@ -1,5 +1,5 @@
 use Rattle.std.proofs.Common.{◌≡◌, ◌-◌, ◌^◌, ◌<◌, ◌≤◌}
-use Rattle.forms.specs.Monomials.{K, merged_codes, times_word}
+use Rattle.forms.specs.Monomials.{K, merged_codes}
 use Rattle.forms.proofs.monomial.Monomial.times.Given as goal
 
 abbrev pub invariant-loop-left : goal.invariant-loop-left

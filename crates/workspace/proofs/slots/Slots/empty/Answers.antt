@@ -1,4 +1,4 @@
-use Rattle.std.proofs.Common.{◌≡◌, replicate, ap, ◌∙◌}
+use Rattle.std.proofs.Common.{ap, ◌∙◌}
 use Rattle.workspace.specs.Slots.{slots}
 use Rattle.workspace.proofs.Laws.{ready_empty, slots_empty}
 use Rattle.workspace.proofs.slots.Slots.empty.Goals as goal
