@@ -1,12 +1,11 @@
 -- The states of a kept pair are states of its machines.
-use Rattle.std.proofs.Common.{◌≡◌, ℕ, ◌<◌, Bool, true, false, not, ◌&&◌, eqb, ltb, List, [], ◌∷◌, length, sym, refl, ap, ◌∙◌, subst, arith}
+use Rattle.std.proofs.Common.{◌≡◌, ℕ, ◌<◌, true, not, eqb, ltb, List, [], ◌∷◌, sym, refl, ap, arith}
 use Rattle.std.proofs.lemmas.Bool.{and_parts, ltb-true}
 use Rattle.machine.specs.declared.head.Head.{Head}
-use Rattle.machine.specs.Answer.{Answer, good, refused, ◌then◌}
-use Rattle.machine.specs.Machine.{Machine}
+use Rattle.machine.specs.Answer.{good, ◌then◌}
 use Rattle.machine.specs.Reading.{table, machine, machine_of}
 use Rattle.machine.proofs.Encodes.{sound_tables}
-use Rattle.walk.specs.Taking.{IsTable, There, machine_or, table_machine}
+use Rattle.walk.specs.Taking.{IsTable, There}
 use Rattle.walk.proofs.Ordered.{state_there}
 use Rattle.proposal.specs.Reading.{read_pair, is_state}
 use Rattle.proposal.proofs.Accepted.{pair_read}

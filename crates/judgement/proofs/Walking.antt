@@ -1,15 +1,14 @@
 -- Both walks of a claim, one behind the other.
-use Rattle.std.proofs.Common.{◌≡◌, ℕ, zero, suc, ◌+◌, ◌<◌, ◌≤◌, Bool, true, false, ◌⊎◌, List, [], ◌∷◌, length, get_or, Ok, Err, Result, sym, refl, ap, ◌∙◌, subst, ap₂, inl, inr, arith}
+use Rattle.std.proofs.Common.{◌≡◌, ℕ, zero, suc, ◌+◌, ◌<◌, ◌≤◌, Bool, ◌⊎◌, List, [], get_or, Err, sym, refl, ap, ◌∙◌, subst, ap₂, inl, inr, arith}
 use Rattle.domain.specs.Ring.{Ops}
 use Rattle.forms.specs.Forms.{Form}
-use Rattle.machine.specs.Answer.{Answer, good, refused, ◌then◌, Figures, told_by}
+use Rattle.machine.specs.Answer.{Answer, good, refused, ◌then◌}
 use Rattle.machine.specs.Machine.{Machine}
 use Rattle.walk.specs.declared.fault.WalkFault.{WalkFault}
 use Rattle.walk.specs.declared.fault.WalkFault.TheVariants.{OverLimits, Unsettled}
 use Rattle.walk.specs.declared.known.KnownTests.{KnownTests}
 use Rattle.walk.specs.declared.outputs.Outputs.{Outputs}
 use Rattle.walk.specs.declared.side.Side.{Side}
-use Rattle.walk.specs.Settled.{Known}
 use Rattle.walk.specs.Walk.{Track, walk, learn, must}
 use Rattle.walk.specs.Seen.{kept_seen, known_seen, outputs_seen, LegalSide, KeptApart}
 use Rattle.walk.specs.Taking.{track_seen, Reached, reached, only_reached, beside, reached_seen, told_walk, KeptOtherSide}
@@ -19,10 +18,8 @@ use Rattle.proposal.specs.Proposal.{Pair}
 use Rattle.rules.specs.declared.counts.Counts.{Counts}
 use Rattle.rules.specs.Rules.{Started, started, at_start, never_taken, same_outputs, infeasible_rules}
 use Rattle.rules.specs.Kept.{Fit}
-use Rattle.judgement.specs.declared.fault.RuleFault.{RuleFault}
-use Rattle.judgement.specs.declared.walks.Walked.{Walked}
 use Rattle.judgement.specs.Faults.{of_walk, rule_figures}
-use Rattle.judgement.specs.Walks.{first_side, second_side, Ends, ends_of, walked, walked_seen}
+use Rattle.judgement.specs.Walks.{first_side, second_side, Ends, ends_of, walked}
 
 pub first_legal : (c : Counts) → Fit c → LegalSide (first_side c)
 first_legal c fit = record { registers = omega (arith, fit.registers₁); behind = omega arith; before = omega arith }

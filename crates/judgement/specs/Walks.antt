@@ -1,8 +1,8 @@
 -- Both paths of a claim, walked from its start pair.
-use Rattle.std.specs.Prelude.{◌≡◌, ℕ, Bool, List, [], Ok, Err, Result}
+use Rattle.std.specs.Prelude.{◌≡◌, ℕ, Bool, List, [], Result}
 use Rattle.domain.specs.Ring.{Ops}
 use Rattle.forms.specs.Forms.{Form}
-use Rattle.machine.specs.Answer.{Answer, good, refused, ◌then◌, told_by}
+use Rattle.machine.specs.Answer.{Answer, good, ◌then◌, told_by}
 use Rattle.machine.specs.Machine.{Machine}
 use Rattle.machine.specs.Reading.{table}
 use Rattle.walk.specs.declared.side.Side.{Side}

@@ -1,4 +1,6 @@
 // A claim judged: its paths, its outputs, and the rules at its two pairs.
+#![tactic(auto)]
+
 pub mod fault;
 pub mod infeasible;
 pub mod judging;

@@ -90,8 +90,8 @@ module _ (h : Head) (small : h.registers ≤ 16) (few : h.inputs ≤ 8) where
           behind_is = ap (λ k. drop k ws) far ∙ sym (drop-drop (n + 1) p ws) ∙ ap (drop (n + 1)) (here ∙ sym (append_assoc a (w ∷ []) rest)) ∙ drop_at (a ++ w ∷ []) rest (n + 1) (length_push a w);
         }
 
-    pub Goes_on : ℕ → List Bool → ℕ → Transition → Type 0
-    Goes_on k st p t = transition (table_limits h) ws k st p ≡ good (p + length (transition_words t))
+    pub GoesOn : ℕ → List Bool → ℕ → Transition → Type 0
+    GoesOn k st p t = transition (table_limits h) ws k st p ≡ good (p + length (transition_words t))
 
     closing_nine : (p q : ℕ) (other : Answer ℕ) → kind (word ws q) ≡ 9 → p ≡ q → closing ws p q other ≡ good (q + 1)
     closing_nine p q other k e = rw (k, eq-eqb p q e)

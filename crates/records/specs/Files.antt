@@ -2,9 +2,9 @@
 use Rattle.std.specs.Prelude.{◌≡◌, ℕ, zero, suc, ◌+◌, ◌*◌, ◌/◌, ◌%◌, cond, ◌&&◌, List, [], ◌∷◌, ◌++◌, map, length, take, drop, Some, None, Ok, Err, vec_items, Option, Result, Vec, ◌==◌, nat_le, nat_lt}
 use Rattle.std.specs.declared.alloc.Global.{Global}
 use Rattle.records.specs.declared.file.Part as declared
-use Rattle.records.specs.declared.file.File as declaredFile
-use Rattle.records.specs.declared.reading.Body as declaredBody
-use Rattle.records.specs.declared.reading.Next as declaredNext
+use Rattle.records.specs.declared.file.File as DeclaredFile
+use Rattle.records.specs.declared.reading.Body as DeclaredBody
+use Rattle.records.specs.declared.reading.Next as DeclaredNext
 use Rattle.records.specs.declared.reading.Start.{Start}
 use Rattle.records.specs.declared.file.Values.{Values}
 use Rattle.records.specs.declared.file.Values.TheVariants as values
@@ -99,14 +99,14 @@ seen_part (parts.Claim ws) = claim (vec_items ws)
 abbrev pub seen_parts : Vec declared.Part Global → List Part
 seen_parts ps = map seen_part (vec_items ps)
 
-abbrev pub seen_body : Option declaredBody.Body → Option Body
+abbrev pub seen_body : Option DeclaredBody.Body → Option Body
 seen_body None = None
 seen_body (Some b) = Some (record { words = b.words.now; rest = b.rest.now })
 
-abbrev pub seen_next : declaredNext.Next → Next
+abbrev pub seen_next : DeclaredNext.Next → Next
 seen_next x = record { part = seen_part x.part; rest = x.rest.now }
 
-abbrev pub seen : declaredFile.File → Layout
+abbrev pub seen : DeclaredFile.File → Layout
 seen f = record { values = f.values; shared = f.shared; first = vec_items f.first; second = vec_items f.second; parts = seen_parts f.parts }
 
 -- The answer of a reader that may run out of memory, and is otherwise the defined one.

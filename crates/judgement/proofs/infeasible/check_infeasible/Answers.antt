@@ -1,4 +1,4 @@
-use Rattle.std.proofs.Common.{◌≡◌, ◌-◌, ◌<◌, false, length, get_or, take, sym, ap, ◌∙◌, ap₂, arith}
+use Rattle.std.proofs.Common.{◌-◌, ◌<◌, false, length, get_or, sym, ap, ◌∙◌, arith}
 use Rattle.std.proofs.lemmas.Result.{err_from_is_err_and}
 use Rattle.std.proofs.lemmas.Bool.{eqb-true, eqb-false}
 use Rattle.machine.specs.Answer.{◌then◌}
@@ -6,7 +6,7 @@ use Rattle.machine.specs.Machine.{row_at}
 use Rattle.workspace.specs.Views.{forms}
 use Rattle.walk.specs.Walk.{walk, learn}
 use Rattle.walk.specs.Taking.{table_machine, track_seen}
-use Rattle.rules.specs.Rules.{other_settled, never_taken}
+use Rattle.rules.specs.Rules.{other_settled}
 use Rattle.judgement.proofs.NeverTaken.{no_step, up_to_last}
 use Rattle.judgement.proofs.infeasible.check_infeasible.Goals as goal
 

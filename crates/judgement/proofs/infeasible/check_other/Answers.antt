@@ -1,4 +1,4 @@
-use Rattle.std.proofs.Common.{◌≡◌, Bool, true, false, not, ◌&&◌, [], ◌∷◌, Some, sym, ap, ◌∙◌, arith, rules}
+use Rattle.std.proofs.Common.{◌≡◌, true, not, ◌&&◌, [], ◌∷◌, Some, sym, ap, ◌∙◌, arith, rules}
 use Rattle.machine.specs.Answer.{check}
 use Rattle.machine.specs.Machine.{row_at}
 use Rattle.machine.specs.Reading.{row_of}
