@@ -4,3 +4,4 @@ pub mod Coverage
 pub mod Calls
 pub mod Itself
 pub mod Guarantee
+pub mod Points

@@ -1,4 +1,5 @@
-// The comparison of two machines.
+// The comparison of two machines: what it guarantees, and worked points of its definitions.
 #![tactic(auto)]
 
 pub mod laws;
+pub mod points;

@@ -11,7 +11,7 @@ use Rattle.proposal.specs.declared.claim.Claim as declared
 use Rattle.proposal.specs.declared.claim.Claim.TheVariants as variants
 use Rattle.proposal.specs.Reading.{bits}
 use Rattle.proposal.specs.Claims.{turns_of, claim_of}
-use Rattle.guarantee.specs.Coverage.{is_path, begins}
+use Rattle.correspondence.specs.Coverage.{is_path, begins}
 use Rattle.coverage.specs.Matching.{same_turns, start_of, path_of, matches}
 
 -- Two turns, one or two.

@@ -6,8 +6,8 @@ use Rattle.walk.specs.Taking.{table_machine, allowed_target}
 use Rattle.proposal.specs.declared.claim.Path.{Path}
 use Rattle.proposal.specs.declared.claim.Claim.{Claim}
 use Rattle.proposal.specs.Claims.{turns_of}
-use Rattle.guarantee.specs.State.{Open, pair_at}
-use Rattle.guarantee.specs.Coverage.{led, judged, unmatched}
+use Rattle.correspondence.specs.State.{Open, pair_at}
+use Rattle.correspondence.specs.Coverage.{led, judged, unmatched}
 use Rattle.coverage.specs.Matching.{matches, any_matches}
 use Rattle.coverage.specs.Trees.{path_seen, Holds, Finds}
 

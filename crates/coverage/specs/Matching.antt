@@ -7,7 +7,7 @@ use Rattle.proposal.specs.declared.claim.Claim as declared
 use Rattle.proposal.specs.declared.claim.Claim.TheVariants as variants
 use Rattle.proposal.specs.Proposal.{Claim}
 use Rattle.proposal.specs.Claims.{turns_of, claim_of}
-use Rattle.guarantee.specs.Coverage.{is_path, begins, claim_start, claim_path}
+use Rattle.correspondence.specs.Coverage.{is_path, begins, claim_start, claim_path}
 
 -- The first n turns are the same.
 abbrev pub same_turns : (n : ℕ) → (v w : ℕ) → Bool

@@ -5,8 +5,8 @@ use Rattle.walk.specs.Taking.{table_machine}
 use Rattle.proposal.specs.declared.claim.Path.{Path}
 use Rattle.proposal.specs.declared.claim.Claim.{Claim}
 use Rattle.proposal.specs.Claims.{turns_of, claim_of}
-use Rattle.guarantee.specs.State.{Open, pair_at}
-use Rattle.guarantee.specs.Coverage.{led, unmatched}
+use Rattle.correspondence.specs.State.{Open, pair_at}
+use Rattle.correspondence.specs.Coverage.{led, unmatched}
 
 -- The turns of a path, if there is one.
 abbrev pub path_seen : Option Path → Option (List Bool)

@@ -5,7 +5,7 @@ use Rattle.domain.specs.Ring.{Ops}
 use Rattle.forms.specs.Forms.{Form}
 use Rattle.machine.specs.Answer.{Answer, good, refused, ◌then◌, check}
 use Rattle.walk.specs.Seen.{outputs_seen}
-use Rattle.rules.specs.Rules.{same_outputs}
+use Rattle.correspondence.specs.Judgement.{same_outputs}
 use Rattle.judgement.specs.Seen.{output_at, same_output}
 
 module _ {X : Type 0} (ports : List ℕ) (fs : List (List X)) (first : ℕ) where

@@ -7,7 +7,7 @@ use Rattle.machine.specs.Answer.{Answer, good, refused, ◌then◌, check}
 use Rattle.machine.specs.Machine.{Machine}
 use Rattle.walk.specs.Walk.{Track, walk, learn, must}
 use Rattle.proposal.specs.Proposal.{Pair}
-use Rattle.rules.specs.Rules.{Started, started, at_start, same_outputs, end_states, end_holds, live_rules}
+use Rattle.correspondence.specs.Judgement.{Started, started, at_start, same_outputs, end_states, end_holds, live_rules}
 use Rattle.judgement.specs.Walks.{Ends, ends_of, first_end, second_end, walked}
 
 module _ {D : Type 0} (o : Ops D) (one two : Machine) (p q : Pair) (path₁ path₂ : List Bool) (substitution : List (List Item)) where

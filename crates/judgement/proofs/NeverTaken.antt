@@ -5,7 +5,7 @@ use Rattle.machine.specs.Answer.{Answer, good, refused, ◌then◌, check}
 use Rattle.machine.specs.Machine.{Machine, Row, straight, branch, row_at}
 use Rattle.walk.specs.Settled.{Known, settled, all}
 use Rattle.walk.specs.Walk.{Track, fits, tested, step, walk, learn}
-use Rattle.rules.specs.Rules.{other_settled, never_taken}
+use Rattle.correspondence.specs.Judgement.{other_settled, never_taken}
 
 module _ {D : Type 0} (o : Ops D) where
   -- The step is at a test.

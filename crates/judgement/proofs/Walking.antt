@@ -16,7 +16,7 @@ use Rattle.walk.proofs.Learned.{known_kept}
 use Rattle.walk.proofs.Waiting.{kept_frame, outputs_frame}
 use Rattle.proposal.specs.Proposal.{Pair}
 use Rattle.rules.specs.declared.counts.Counts.{Counts}
-use Rattle.rules.specs.Rules.{Started, started, at_start, never_taken, same_outputs, infeasible_rules}
+use Rattle.correspondence.specs.Judgement.{Started, started, at_start, never_taken, same_outputs, infeasible_rules}
 use Rattle.rules.specs.Kept.{Fit}
 use Rattle.judgement.specs.Faults.{of_walk, rule_figures}
 use Rattle.judgement.specs.Walks.{first_side, second_side, Ends, ends_of, walked}

@@ -10,7 +10,7 @@ use Rattle.walk.specs.Taking.{table_machine}
 use Rattle.proposal.specs.Proposal.{Pair}
 use Rattle.proposal.specs.Reading.{read, all_stored, count_from}
 use Rattle.rules.specs.declared.counts.Counts.{Counts}
-use Rattle.rules.specs.Rules.{live_rules, infeasible_rules}
+use Rattle.correspondence.specs.Judgement.{live_rules, infeasible_rules}
 use Rattle.rules.specs.Kept.{kept_pair}
 use Rattle.judgement.specs.declared.fault.RuleFault.{RuleFault}
 use Rattle.judgement.specs.Faults.{told_rule}

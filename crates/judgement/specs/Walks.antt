@@ -14,7 +14,7 @@ use Rattle.proposal.specs.Proposal.{Pair}
 use Rattle.proposal.specs.Reading.{pair_head}
 use Rattle.proposal.specs.Places.{head_of}
 use Rattle.rules.specs.declared.counts.Counts.{Counts}
-use Rattle.rules.specs.Rules.{started, at_start, same_outputs}
+use Rattle.correspondence.specs.Judgement.{started, at_start, same_outputs}
 use Rattle.rules.specs.Kept.{Fit, number_at}
 use Rattle.judgement.specs.declared.fault.RuleFault.{RuleFault}
 use Rattle.judgement.specs.declared.walks.Walked.{Walked}

@@ -4,7 +4,7 @@ ghost use Rattle.machine.specs.Machine.{row_at};
 ghost use Rattle.workspace.specs.Views.{forms};
 ghost use Rattle.walk.specs.Seen.{LegalSide};
 ghost use Rattle.walk.specs.Taking.{IsTable, There, table_machine, track_seen};
-ghost use Rattle.rules.specs.Rules.{other_settled, never_taken};
+ghost use Rattle.correspondence.specs.Judgement.{other_settled, never_taken};
 ghost use Rattle.judgement.specs.Faults.{told_rule};
 
 use crate::fault::RuleFault;

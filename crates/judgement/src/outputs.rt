@@ -2,7 +2,7 @@
 ghost use Rattle.std.specs.Prelude.{◌≡◌, ◌<◌};
 ghost use Rattle.workspace.specs.Views.{forms};
 ghost use Rattle.walk.specs.Seen.{outputs_seen};
-ghost use Rattle.rules.specs.Rules.{same_outputs};
+ghost use Rattle.correspondence.specs.Judgement.{same_outputs};
 ghost use Rattle.judgement.specs.Seen.{told_outputs, first_outputs, second_outputs, output_at, same_output};
 
 use domain::Domain;

@@ -3,7 +3,7 @@ ghost use Rattle.std.specs.Prelude.{◌≡◌, ◌≤◌, true, length};
 ghost use Rattle.workspace.specs.Views.{forms};
 ghost use Rattle.walk.specs.Taking.{table_machine};
 ghost use Rattle.walk.specs.Seen.{LegalSide};
-ghost use Rattle.rules.specs.Rules.{infeasible_rules};
+ghost use Rattle.correspondence.specs.Judgement.{infeasible_rules};
 ghost use Rattle.rules.specs.Kept.{is_kept, kept_pair};
 ghost use Rattle.judgement.specs.Faults.{told_rule};
 ghost use Rattle.judgement.specs.Walks.{Opened, first_side, second_side, walked, told_walked};

@@ -11,7 +11,7 @@ use Rattle.walk.specs.Walk.{fits}
 use Rattle.walk.specs.Seen.{kept_seen, known_seen, KeptBeforeKnown}
 use Rattle.walk.proofs.Waiting.{kept_frame}
 use Rattle.rules.specs.declared.counts.Counts.{Counts}
-use Rattle.rules.specs.Rules.{formed, fact_forms, Started, started}
+use Rattle.correspondence.specs.Judgement.{formed, fact_forms, Started, started}
 use Rattle.rules.specs.Seen.{KeptButGroup, told_known}
 use Rattle.rules.specs.Kept.{Fit}
 use Rattle.rules.specs.Told.{told_started}

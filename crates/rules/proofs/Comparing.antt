@@ -11,7 +11,7 @@ use Rattle.walk.specs.Walk.{nth, fits}
 use Rattle.walk.specs.Seen.{kept_seen, KeptBut}
 use Rattle.walk.proofs.WorkedOut.{nth_kept}
 use Rattle.rules.specs.declared.registers.Registers.{Registers}
-use Rattle.rules.specs.Rules.{form_in_proposal, is_form, same_registers}
+use Rattle.correspondence.specs.Judgement.{form_in_proposal, is_form, same_registers}
 use Rattle.rules.specs.Seen.{symbols_seen}
 use Rattle.rules.specs.Expressions.{register_at, next_register, registers_at, behind_registers, ReadableRegisters}
 use Rattle.rules.proofs.Filling.{one_less, none_left, readable_more}

@@ -12,7 +12,7 @@ use Rattle.walk.specs.Taking.{KeptBelowTest}
 use Rattle.walk.proofs.Waiting.{kept_frame}
 use Rattle.proposal.specs.declared.cursor.FactAt.{FactAt}
 use Rattle.proposal.specs.Cursors.{fact_of}
-use Rattle.rules.specs.Rules.{form_in_proposal, fact_form}
+use Rattle.correspondence.specs.Judgement.{form_in_proposal, fact_form}
 use Rattle.rules.specs.Seen.{symbols_seen, noted_fact}
 
 -- what symbols stand for stays in its slots

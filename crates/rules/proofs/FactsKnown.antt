@@ -10,7 +10,7 @@ use Rattle.walk.specs.Taking.{KeptBelowTest}
 use Rattle.walk.proofs.Learned.{known_frame}
 use Rattle.proposal.specs.declared.cursor.FactAt.{FactAt}
 use Rattle.proposal.specs.Cursors.{fact_of}
-use Rattle.rules.specs.Rules.{fact_form, fact_forms}
+use Rattle.correspondence.specs.Judgement.{fact_form, fact_forms}
 use Rattle.rules.specs.Seen.{noted_fact}
 use Rattle.rules.specs.Expressions.{fact_cut, facts_at, ReadableFact, ReadableFacts}
 use Rattle.rules.proofs.Filling.{one_less, none_left, joined, joined_one, none_before}

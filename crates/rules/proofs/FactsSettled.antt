@@ -14,7 +14,7 @@ use Rattle.walk.specs.Taking.{KeptBelowTest}
 use Rattle.proposal.specs.declared.cursor.FactAt.{FactAt}
 use Rattle.proposal.specs.Proposal.{Fact}
 use Rattle.proposal.specs.Cursors.{fact_of}
-use Rattle.rules.specs.Rules.{fact_form, facts_settled}
+use Rattle.correspondence.specs.Judgement.{fact_form, facts_settled}
 use Rattle.rules.specs.Seen.{symbols_seen, noted_fact}
 use Rattle.rules.specs.Expressions.{fact_cut, facts_at, ReadableFacts}
 use Rattle.rules.proofs.Filling.{one_less, none_left}

@@ -8,7 +8,7 @@ use Rattle.workspace.specs.Evaluation.{Below}
 use Rattle.walk.specs.Seen.{kept_seen, KeptBut}
 use Rattle.walk.proofs.Waiting.{kept_frame}
 use Rattle.rules.specs.declared.registers.Registers.{Registers}
-use Rattle.rules.specs.Rules.{form_in_proposal, formed}
+use Rattle.correspondence.specs.Judgement.{form_in_proposal, formed}
 use Rattle.rules.specs.Seen.{KeptButGroup}
 use Rattle.rules.specs.Expressions.{register_at, next_register, registers_at, behind_registers, ReadableRegister, ReadableRegisters}
 

@@ -16,7 +16,7 @@ use Rattle.rules.specs.declared.counts.Counts.{Counts}
 use Rattle.rules.specs.declared.fault.EndFault.{EndFault}
 use Rattle.rules.specs.declared.fault.EndFault.TheVariants.{OverLimits}
 use Rattle.rules.specs.declared.registers.Registers.{Registers}
-use Rattle.rules.specs.Rules.{formed, same_registers, facts_settled, end_holds}
+use Rattle.correspondence.specs.Judgement.{formed, same_registers, facts_settled, end_holds}
 use Rattle.rules.specs.Seen.{KeptButGroup}
 use Rattle.rules.specs.Kept.{Fit, kept_pair, first_registers, second_registers, fact_count, symbol_count, substitution_registers}
 use Rattle.rules.specs.Expressions.{registers_at, behind_registers, ReadableRegisters, facts_at, ReadableFacts}

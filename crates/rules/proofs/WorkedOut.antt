@@ -11,7 +11,7 @@ use Rattle.workspace.specs.declared.leaves.Symbols.TheVariants.{Own, Kept}
 use Rattle.workspace.specs.Views.{named}
 use Rattle.workspace.specs.Evaluation.{reading, symbol_forms, BelowSymbols}
 use Rattle.walk.proofs.WorkedOut.{group_nth, none_there}
-use Rattle.rules.specs.Rules.{form_in_proposal}
+use Rattle.correspondence.specs.Judgement.{form_in_proposal}
 use Rattle.rules.specs.Seen.{proposal_leaves, symbols_seen}
 
 module _ {D : Type 0} (o : Ops D) (fs : List (Form D)) where

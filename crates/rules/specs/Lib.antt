@@ -1,4 +1,3 @@
-pub mod Rules
 pub mod Seen
 pub mod Kept
 pub mod Expressions

@@ -12,7 +12,7 @@ use Rattle.walk.specs.Seen.{kept_seen, known_seen}
 use Rattle.rules.specs.declared.counts.Counts.{Counts}
 use Rattle.rules.specs.declared.fault.EndFault.{EndFault}
 use Rattle.rules.specs.declared.fault.EndFault.TheVariants.{OverLimits, Register, Fact}
-use Rattle.rules.specs.Rules.{Started, end_holds}
+use Rattle.correspondence.specs.Judgement.{Started, end_holds}
 use Rattle.rules.specs.Kept.{kept_pair}
 
 -- The registers of both machines in their slots, and what is known.

@@ -5,7 +5,7 @@ ghost use Rattle.workspace.specs.Layout.{left_at};
 ghost use Rattle.workspace.specs.Evaluation.{Below};
 ghost use Rattle.walk.specs.Walk.{nth};
 ghost use Rattle.walk.specs.Seen.{kept_seen, known_seen, KeptBut};
-ghost use Rattle.rules.specs.Rules.{same_registers, facts_settled};
+ghost use Rattle.correspondence.specs.Judgement.{same_registers, facts_settled};
 ghost use Rattle.rules.specs.Expressions.{registers_at, behind_registers, ReadableRegisters, facts_at, ReadableFacts};
 ghost use Rattle.rules.specs.Kept.{Fit, kept_pair, is_kept};
 ghost use Rattle.rules.specs.Told.{told_end, found_by, Substituted, JudgesEnd};

@@ -7,7 +7,7 @@ ghost use Rattle.workspace.specs.Evaluation.{BelowSymbols};
 ghost use Rattle.walk.specs.Seen.{at_hand, KeptBeforeKnown};
 ghost use Rattle.walk.specs.Taking.{KeptBelowTest};
 ghost use Rattle.proposal.specs.Cursors.{fact_of};
-ghost use Rattle.rules.specs.Rules.{fact_form, fact_forms};
+ghost use Rattle.correspondence.specs.Judgement.{fact_form, fact_forms};
 ghost use Rattle.rules.specs.Seen.{symbols_seen, noted_fact, told_known};
 ghost use Rattle.rules.specs.Expressions.{fact_cut, facts_at, ReadableFact, ReadableFacts};
 

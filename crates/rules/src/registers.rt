@@ -7,7 +7,7 @@ ghost use Rattle.workspace.specs.Slots.{told};
 ghost use Rattle.workspace.specs.Views.{forms};
 ghost use Rattle.workspace.specs.Evaluation.{Below, BelowSymbols};
 ghost use Rattle.walk.specs.Seen.{kept_seen, KeptBut};
-ghost use Rattle.rules.specs.Rules.{form_in_proposal, formed};
+ghost use Rattle.correspondence.specs.Judgement.{form_in_proposal, formed};
 ghost use Rattle.rules.specs.Seen.{symbols_seen, KeptButGroup};
 ghost use Rattle.rules.specs.Expressions.{end_at, expression_at, ReadableAt, own_symbol, register_at, next_register, registers_at, behind_registers, ReadableRegister, ReadableRegisters};
 

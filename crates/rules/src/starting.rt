@@ -1,7 +1,7 @@
 // The start pair of a claim: its registers get forms, and its facts become known.
 ghost use Rattle.std.specs.Prelude.{◌≡◌, ◌≤◌, true, IfOk};
 ghost use Rattle.workspace.specs.Views.{forms};
-ghost use Rattle.rules.specs.Rules.{started};
+ghost use Rattle.correspondence.specs.Judgement.{started};
 ghost use Rattle.rules.specs.Kept.{Fit, kept_pair, is_kept};
 ghost use Rattle.rules.specs.Told.{told_started};
 

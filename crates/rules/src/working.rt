@@ -7,7 +7,7 @@ ghost use Rattle.workspace.specs.Slots.{told};
 ghost use Rattle.workspace.specs.Views.{forms};
 ghost use Rattle.workspace.specs.Evaluation.{BelowSymbols};
 ghost use Rattle.walk.specs.Seen.{KeptBut};
-ghost use Rattle.rules.specs.Rules.{form_in_proposal};
+ghost use Rattle.correspondence.specs.Judgement.{form_in_proposal};
 ghost use Rattle.rules.specs.Seen.{proposal_leaves, symbols_seen};
 
 use domain::Domain;

@@ -6,7 +6,7 @@ use Rattle.machine.specs.Machine.{row_at}
 use Rattle.workspace.specs.Views.{forms}
 use Rattle.walk.specs.Walk.{walk, learn}
 use Rattle.walk.specs.Taking.{table_machine, track_seen}
-use Rattle.rules.specs.Rules.{other_settled}
+use Rattle.correspondence.specs.Judgement.{other_settled}
 use Rattle.judgement.proofs.NeverTaken.{no_step, up_to_last}
 use Rattle.judgement.proofs.infeasible.check_infeasible.Goals as goal
 

@@ -3,7 +3,7 @@ use Rattle.std.proofs.lemmas.Result.{err_from_is_err_and}
 use Rattle.workspace.specs.Views.{forms}
 use Rattle.walk.specs.Seen.{kept_seen, known_seen, LegalSide}
 use Rattle.walk.specs.Taking.{There, table_machine, track_seen}
-use Rattle.rules.specs.Rules.{Started, never_taken}
+use Rattle.correspondence.specs.Judgement.{Started, never_taken}
 use Rattle.rules.specs.Kept.{kept_pair}
 use Rattle.judgement.proofs.Standing.{first_table, first_there}
 use Rattle.judgement.proofs.Walking.{first_legal, first_start, infeasible_over, infeasible_by}

@@ -1,6 +1,6 @@
 use Rattle.std.proofs.Common.{[], ◌∷◌, ap, ◌∙◌}
 use Rattle.workspace.specs.Views.{forms}
-use Rattle.rules.specs.Rules.{form_in_proposal}
+use Rattle.correspondence.specs.Judgement.{form_in_proposal}
 use Rattle.rules.specs.Seen.{symbols_seen}
 use Rattle.rules.proofs.Symbols.{symbol_item, symbol_expression}
 use Rattle.rules.proofs.registers.work_out_symbol.Goals as goal
