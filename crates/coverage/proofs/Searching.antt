@@ -2,7 +2,8 @@
 use Rattle.std.proofs.Common.{◌≡◌, ℕ, suc, ◌-◌, ◌<◌, Bool, true, false, List, [], ◌∷◌, ◌++◌, is_some, Some, None, Option, sym, refl, ap, ◌∙◌, ap₂, arith}
 use Rattle.machine.specs.Machine.{Machine, Row, straight, branch, row_at, chosen}
 use Rattle.walk.specs.Settled.{any}
-use Rattle.walk.specs.Taking.{table_machine, allowed_target}
+use Rattle.machine.specs.Tables.{table_machine}
+use Rattle.walk.specs.Taking.{allowed_target}
 use Rattle.proposal.specs.declared.claim.Path.{Path}
 use Rattle.proposal.specs.declared.claim.Claim.{Claim}
 use Rattle.proposal.specs.Claims.{turns_of}

@@ -1,7 +1,7 @@
 -- The tree of turns from a pair, as the code goes through it.
 use Rattle.std.specs.Prelude.{◌≡◌, ℕ, ◌^◌, ◌<◌, Bool, List, [], map, Option}
 use Rattle.std.specs.Option.{option_map}
-use Rattle.walk.specs.Taking.{table_machine}
+use Rattle.machine.specs.Tables.{table_machine}
 use Rattle.proposal.specs.declared.claim.Path.{Path}
 use Rattle.proposal.specs.declared.claim.Claim.{Claim}
 use Rattle.proposal.specs.Claims.{turns_of, claim_of}

@@ -1,6 +1,6 @@
 // The tree of turns from a pair: the first path that no claim matches.
 ghost use Rattle.std.specs.Prelude.{◌≡◌, ◌+◌, ◌<◌, ◌≤◌, [], ◌∷◌, ◌++◌, IfSome};
-ghost use Rattle.walk.specs.Taking.{IsTable, There};
+ghost use Rattle.machine.specs.Tables.{IsTable, There};
 ghost use Rattle.proposal.specs.Claims.{turns_of};
 ghost use Rattle.coverage.specs.Trees.{Tidy, Finds, Lacks};
 

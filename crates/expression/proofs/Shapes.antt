@@ -1,9 +1,9 @@
 -- Expressions in words, an item at a time.
-use Rattle.std.proofs.Common.{◌≡◌, ℕ, zero, suc, ◌+◌, ◌-◌, ◌<◌, ◌≤◌, Bool, true, false, ◌&&◌, eqb, List, map, length, get_or, take, drop, Some, None, ◌∙◌, arith}
+use Rattle.std.proofs.Common.{◌≡◌, ℕ, ◌+◌, ◌-◌, ◌<◌, ◌≤◌, Bool, false, eqb, List, map, length, get_or, drop, ◌∙◌, arith}
 use Rattle.std.proofs.lemmas.List.{at_drop_more, at_drop_all, length-map}
 use Rattle.std.proofs.lemmas.Bool.{le-leb, lt-leb}
 use Rattle.expression.specs.Words.{takes, item_of}
-use Rattle.expression.specs.Shape.{lands, is_expression, split_below}
+use Rattle.expression.specs.Shape.{lands, is_expression}
 
 pub expression_long : (ws : List ℕ) → 24 < length ws → false ≡ is_expression (map item_of ws)
 unfolding is_expression
@@ -29,15 +29,3 @@ module _ (ws : List ℕ) (i d : ℕ) where
 
   pub lands_end : length ws ≤ i → lands d (map item_of (drop i ws)) ≡ eqb d 1
   lands_end h = at_drop_all (λ xs. lands d (map item_of xs)) ws i h
-
-pub split_none : (ws : List ℕ) (k : ℕ) → k ≡ 0 → split_below k ws ≡ None
-split_none ws k e = rw e
-
-module _ (ws : List ℕ) where
-  pub split_found : (k : ℕ) → 0 < k → (is_expression (map item_of (take (k - 1) ws)) && is_expression (map item_of (drop (k - 1) ws))) ≡ true → split_below k ws ≡ Some (k - 1)
-  split_found zero h e = absurd (omega arith)
-  split_found (suc k) h e = let b : suc k - 1 ≡ k = omega arith in rw b (rw (rw b at e))
-
-  pub split_next : (k : ℕ) → 0 < k → (is_expression (map item_of (take (k - 1) ws)) && is_expression (map item_of (drop (k - 1) ws))) ≡ false → split_below k ws ≡ split_below (k - 1) ws
-  split_next zero h e = absurd (omega arith)
-  split_next (suc k) h e = let b : suc k - 1 ≡ k = omega arith in rw b (rw (rw b at e))

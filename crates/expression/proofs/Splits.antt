@@ -1,10 +1,10 @@
 -- Two expressions one behind the other can be split in one way only.
-use Rattle.std.proofs.Common.{◌≡◌, ℕ, zero, suc, ◌+◌, ◌-◌, ◌<◌, ◌≤◌, true, leb, List, [], ◌∷◌, ◌++◌, map, length, take, drop, sym, refl, ap, ◌∙◌, subst, ⊎_elim, arith, take-add}
-use Rattle.std.proofs.lemmas.Bool.{and_parts, leb-true, eqb-true, cases_order}
+use Rattle.std.proofs.Common.{◌≡◌, ℕ, zero, suc, ◌+◌, ◌-◌, ◌<◌, ◌≤◌, ◌≢◌, Bool, true, false, ◌&&◌, Some, None, Option, MatchOption, leb, List, [], ◌∷◌, ◌++◌, map, length, take, drop, sym, refl, ap, ◌∙◌, subst, ⊎_elim, arith, take-add}
+use Rattle.std.proofs.lemmas.Bool.{and_parts, leb-true, eqb-true, cases_order, true≢false}
 use Rattle.std.proofs.lemmas.List.{take-append-drop, map-append, take-map}
 use Rattle.expression.specs.declared.item.Item.{Item}
 use Rattle.expression.specs.Words.{takes, item_of}
-use Rattle.expression.specs.Shape.{lands, is_expression, Splits, OneSplit}
+use Rattle.expression.specs.Shape.{lands, is_expression, split_below, split, Splits, OneSplit}
 
 -- the items take d values to e, never short
 Run : ℕ → List Item → ℕ → Type 0
@@ -69,3 +69,30 @@ not_before ws j k h sj sk =
 
 pub one_split : OneSplit
 one_split ws j k sj sk = ⊎_elim (λ e. e) (λ o. ⊎_elim (λ lt. absurd (not_before ws k j lt sk sj)) (λ gt. absurd (not_before ws j k gt sj sk)) o) (cases_order j k)
+
+-- The first place that splits them, among all below the length, is the one that there is.
+module _ (ws : List ℕ) where
+  abbrev pub both : ℕ → Bool
+  both k = is_expression (map item_of (take k ws)) && is_expression (map item_of (drop k ws))
+
+  splits : (k : ℕ) → both k ≡ true → Splits ws k
+  splits k e = and_parts (is_expression (map item_of (take k ws))) _ e
+
+  below_none : (n : ℕ) → ((k : ℕ) → k < n → both k ≡ false) → split_below n ws ≡ None
+  below_none zero h = refl
+  below_none (suc n) h = rw (h n (omega arith)) (below_none n (λ k lt. h k (omega arith)))
+
+  below_one : (n i : ℕ) → i < n → both i ≡ true → split_below n ws ≡ Some i
+  below_one zero i h e = absurd (omega arith)
+  below_one (suc n) i h e = go (both n) refl (λ lt. below_one n i lt e)
+    where
+      go : (b : Bool) → both n ≡ b → (i < n → split_below n ws ≡ Some i) → split_below (suc n) ws ≡ Some i
+      go true is more = rw is (ap Some (one_split ws n i (splits n is) (splits i e)))
+      go false is more =
+          let other : n ≢ i = λ same. true≢false (sym e ∙ ap both (sym same) ∙ is) in
+          rw is (more (omega arith))
+
+  pub split_is : (r : Option ℕ) → MatchOption r ((k : ℕ) → 0 ≤ k → k < length ws → both k ≡ false) (λ i. (0 ≤ i) × (i < length ws) × (both i ≡ true) × ((k : ℕ) → 0 ≤ k → k < i → both k ≡ false)) → r ≡ split ws
+  unfolding split
+  split_is None h = sym (below_none (length ws) (λ k lt. h k (omega arith) lt))
+  split_is (Some i) (l, m, s, r) = sym (below_one (length ws) i m s)

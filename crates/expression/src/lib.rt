@@ -3,6 +3,7 @@
 #![tactic(auto)]
 
 pub mod item;
+pub mod kind;
 pub mod shape;
 pub mod test;
 pub mod words;

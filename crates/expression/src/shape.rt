@@ -1,9 +1,9 @@
 // When words are an expression: 1 to 24 items in postfix that leave one value, with at most eight on the way.
-ghost use Rattle.std.specs.Prelude.{◌≡◌, ◌≤◌, ◌&&◌, map, length, take, drop};
+ghost use Rattle.std.specs.Prelude.{◌≡◌, ◌≤◌, ◌&&◌, true, false, map, length, take, drop, IfSome, IfNone};
 ghost use Rattle.expression.specs.Words.{item_of};
 ghost use Rattle.expression.specs.Shape.{is_expression, split, OneSplit, HasValue};
 
-use crate::words::item_of;
+use crate::item::Item;
 use domain::Domain;
 
 const LONGEST: usize = 24;
@@ -18,13 +18,34 @@ pub fn is_expression(words: &[u32]) -> bool
     }
     let mut depth = 0;
     for w in words {
-        let t = item_of(*w).taken();
+        let t = Item::from(*w).taken();
         if t > depth || depth - t >= DEEPEST {
             return false;
         }
         depth = depth - t + 1;
     }
     depth == 1
+}
+
+// Words that are an expression.
+#[derive(Clone, Copy)]
+pub struct Expression<'a> {
+    pub words: &'a [u32],
+    ghost is: { is_expression (map item_of words.now) ≡ true },
+}
+
+impl<'a> Expression<'a> {
+    // These words, if they are an expression.
+    pub fn of(words: &'a [u32]) -> Option<Expression<'a>>
+        ensures some { IfSome result (λ e. e.words.now ≡ words.now) }
+        ensures none { IfNone result (is_expression (map item_of words.now) ≡ false) }
+    {
+        if is_expression(words) {
+            Some(Expression { words })
+        } else {
+            None
+        }
+    }
 }
 
 // Whether both sides of `k` are expressions.
@@ -40,14 +61,7 @@ fn splits_at(words: &[u32], k: usize) -> bool
 pub fn split_of(words: &[u32]) -> Option<usize>
     ensures { result ≡ split words.now }
 {
-    let mut k = words.len();
-    while k > 0 {
-        k -= 1;
-        if splits_at(words, k) {
-            return Some(k);
-        }
-    }
-    None
+    (0..words.len()).find(|k| splits_at(words, *k))
 }
 
 // Two expressions one behind the other can be split in one way only.

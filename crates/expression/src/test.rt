@@ -1,5 +1,5 @@
 // A test of two values.
-#[derive(Clone, Copy)]
+#[derive(Clone, Copy, PartialEq, Eq)]
 pub enum Test {
     Same,
     Below,

@@ -1,50 +1,48 @@
 // Words of 32 bits: the top four are the kind, the rest the number.
 ghost use Rattle.std.specs.Prelude.{◌≡◌};
-ghost use Rattle.expression.specs.Words.{kind, number, item, item_of, takes, test_of, WordsReadBack};
+ghost use Rattle.expression.specs.Kinds.{kind_number};
+ghost use Rattle.expression.specs.Words.{number, item, item_of, takes, test_of, WordsReadBack};
 
 use crate::item::Item;
+use crate::kind::{Kind, NUMBERS};
 use crate::test::Test;
 
-const NUMBERS: u32 = 1 << 28;
-
-pub fn kind_of(word: u32) -> u32
-    ensures { result ≡ kind word }
-{
-    word / NUMBERS
-}
-
+// The number in a word, below its kind.
 pub fn number_of(word: u32) -> u32
     ensures { result ≡ number word }
 {
     word % NUMBERS
 }
 
-// What a word of this kind and number stands for.
-fn item_at(k: u32, n: u32) -> Item
-    ensures { result ≡ item k n }
-{
-    match k {
-        1 => Item::Constant(n),
-        2 => Item::Register(n),
-        3 => Item::Input(n),
-        4 => Item::Symbol(n),
-        _ => match n {
-            0 => Item::Sum,
-            1 => Item::Difference,
-            2 => Item::Product,
-            _ => Item::Negation,
-        },
+impl From<u32> for Item {
+    ghost from_gives = { λ w i. i ≡ item_of w };
+
+    // What a word of an expression stands for.
+    #[tactic(auto, unfolding(crate::specs::Words::item_of))]
+    fn from(word: u32) -> Item {
+        Item::at(Kind::of(word), number_of(word))
     }
 }
 
-// What a word of an expression stands for.
-pub fn item_of(word: u32) -> Item
-    ensures { result ≡ item_of word }
-{
-    item_at(word / NUMBERS, word % NUMBERS)
-}
-
 impl Item {
+    // What a word of this kind and number stands for.
+    fn at(kind: Kind, n: u32) -> Item
+        ensures { result ≡ item (kind_number kind) n }
+    {
+        match kind {
+            Kind::Constant => Item::Constant(n),
+            Kind::Register => Item::Register(n),
+            Kind::Input => Item::Input(n),
+            Kind::Symbol => Item::Symbol(n),
+            _ => match n {
+                0 => Item::Sum,
+                1 => Item::Difference,
+                2 => Item::Product,
+                _ => Item::Negation,
+            },
+        }
+    }
+
     // How many values it takes off the stack; it leaves one.
     pub fn taken(self) -> usize
         ensures { result ≡ takes self }

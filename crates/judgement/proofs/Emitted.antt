@@ -1,5 +1,5 @@
 -- Outputs of two paths, compared from the first on.
-use Rattle.std.proofs.Common.{◌≡◌, ℕ, zero, suc, ◌+◌, ◌-◌, ◌<◌, ◌≤◌, min, true, false, ◌≢◌, List, [], ◌∷◌, ◌++◌, sym, refl, ap, ◌∙◌, ap₂, ⊎_elim, arith}
+use Rattle.std.proofs.Common.{◌≡◌, ℕ, zero, suc, ◌+◌, ◌-◌, ◌<◌, ◌≤◌, min, true, false, ◌≢◌, List, [], ◌∷◌, ◌++◌, sym, refl, ap, ◌∙◌, subst, ap₂, ⊎_elim, arith}
 use Rattle.std.proofs.lemmas.Bool.{cases_lt}
 use Rattle.domain.specs.Ring.{Ops}
 use Rattle.forms.specs.Forms.{Form}
@@ -55,6 +55,13 @@ module _ {D : Type 0} (o : Ops D) (ps qs : List ℕ) (fs : List (Form D)) (m n :
   pub same_so_far : (i : ℕ) → i < m → i < n → same_output o (output_at ps fs 64 i) (output_at qs fs 80 i) ≡ true → Comparing i → Comparing (i + 1)
   unfolding Comparing
   same_so_far i a b e inv = sym (one_output i a b ∙ ap (λ t. check t 15 0 i then λ _. left_from (i + 1)) e) ∙ inv
+
+  -- as many outputs are the same
+  pub same_below : (k : ℕ) → k ≤ m → k ≤ n → ((i : ℕ) → 0 ≤ i → i < k → same_output o (output_at ps fs 64 i) (output_at qs fs 80 i) ≡ true) → Comparing k
+  same_below zero a b h = compare_start
+  same_below (suc k) a b h =
+      let s : k + 1 ≡ suc k = omega arith in
+      subst Comparing s (same_so_far k (omega arith) (omega arith) (h k (omega arith) (omega arith)) (same_below k (omega arith) (omega arith) (λ i l lt. h i l (omega arith))))
 
   pub not_same : (i : ℕ) → i < m → i < n → same_output o (output_at ps fs 64 i) (output_at qs fs 80 i) ≡ false → Comparing i → refused 15 0 i ≡ same_outputs o 0 (outputs_seen ps fs 64 m) (outputs_seen qs fs 80 n)
   unfolding Comparing

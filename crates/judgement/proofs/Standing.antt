@@ -1,17 +1,18 @@
 -- The states of a kept pair are states of its machines.
-use Rattle.std.proofs.Common.{◌≡◌, ℕ, ◌<◌, true, not, eqb, ltb, List, [], ◌∷◌, sym, refl, ap, arith}
+use Rattle.std.proofs.Common.{◌≡◌, ℕ, ◌<◌, true, not, eqb, ltb, List, [], ◌∷◌, refl, ap, ◌∙◌, arith}
 use Rattle.std.proofs.lemmas.Bool.{and_parts, ltb-true}
 use Rattle.machine.specs.declared.head.Head.{Head}
 use Rattle.machine.specs.Answer.{good, ◌then◌}
 use Rattle.machine.specs.Reading.{table, machine, machine_of}
 use Rattle.machine.proofs.Encodes.{sound_tables}
-use Rattle.walk.specs.Taking.{IsTable, There}
-use Rattle.walk.proofs.Ordered.{state_there}
+use Rattle.machine.specs.Tables.{There}
+use Rattle.machine.proofs.Opened.{has_state}
 use Rattle.proposal.specs.Reading.{read_pair, is_state}
 use Rattle.proposal.proofs.Accepted.{pair_read}
 use Rattle.rules.specs.declared.counts.Counts.{Counts}
 use Rattle.rules.specs.Kept.{pair_zero, kept_pair, is_kept}
-use Rattle.rules.proofs.PairParts.{counted, was_good}
+use Rattle.rules.proofs.PairParts.{fit_of, counted, was_good}
+use Rattle.judgement.specs.declared.tables.Tables.{Tables}
 use Rattle.judgement.specs.Walks.{Opened, StandsAt, head_at}
 
 pub stands : (c : Counts) (ws : List ℕ) → is_kept c ws ≡ true → StandsAt (head_at ws) (kept_pair c ws)
@@ -31,23 +32,21 @@ some_state words h e =
 state_below : (states s : ℕ) → is_state states s ≡ true → s < states
 state_below states s e = ltb-true s states (and_parts (not (eqb s 0)) (ltb s states) e).1
 
+-- what the types say of tables
+pub opened_of : (t : Tables) → Opened t.first.words.now t.second.words.now t.counts
+opened_of t = record { first_is = t.first.accepted ∙ ap good t.first_is; second_is = t.second.accepted ∙ ap good t.second_is; fit = fit_of t.counts }
+
 module _ (first second : List ℕ) (c : Counts) (opened : Opened first second c) where
-  pub first_table : IsTable first
-  first_table = (state_there first c.one 0 (sym opened.first_is) (some_state first c.one opened.first_is)).0
-
-  pub second_table : IsTable second
-  second_table = (state_there second c.two 0 (sym opened.second_is) (some_state second c.two opened.second_is)).0
-
   pub first_there : (ws : List ℕ) → is_kept c ws ≡ true → There first (kept_pair c ws).state₁
-  first_there [] kept = (state_there first c.one 0 (sym opened.first_is) (some_state first c.one opened.first_is)).1
+  first_there [] kept = has_state first c.one opened.first_is 0 (some_state first c.one opened.first_is)
   first_there (w ∷ ws) kept =
       let p = kept_pair c (w ∷ ws) in
       let parts = pair_read c.one c.two (w ∷ ws) p (was_good (pair_zero c) (read_pair c.one c.two (w ∷ ws)) kept) in
-      (state_there first c.one p.state₁ (sym opened.first_is) (state_below c.one.states p.state₁ parts.state₁)).1
+      has_state first c.one opened.first_is p.state₁ (state_below c.one.states p.state₁ parts.state₁)
 
   pub second_there : (ws : List ℕ) → is_kept c ws ≡ true → There second (kept_pair c ws).state₂
-  second_there [] kept = (state_there second c.two 0 (sym opened.second_is) (some_state second c.two opened.second_is)).1
+  second_there [] kept = has_state second c.two opened.second_is 0 (some_state second c.two opened.second_is)
   second_there (w ∷ ws) kept =
       let p = kept_pair c (w ∷ ws) in
       let parts = pair_read c.one c.two (w ∷ ws) p (was_good (pair_zero c) (read_pair c.one c.two (w ∷ ws)) kept) in
-      (state_there second c.two p.state₂ (sym opened.second_is) (state_below c.two.states p.state₂ parts.state₂)).1
+      has_state second c.two opened.second_is p.state₂ (state_below c.two.states p.state₂ parts.state₂)

@@ -6,11 +6,11 @@ use Rattle.machine.specs.Answer.{Answer, good, refused, ◌then◌}
 use Rattle.machine.specs.Machine.{Machine}
 use Rattle.walk.specs.declared.fault.WalkFault.{WalkFault}
 use Rattle.walk.specs.declared.fault.WalkFault.TheVariants.{OverLimits, Unsettled}
-use Rattle.walk.specs.declared.known.KnownTests.{KnownTests}
-use Rattle.walk.specs.declared.outputs.Outputs.{Outputs}
+use Rattle.walk.specs.Lists.{KnownTests}
+use Rattle.walk.specs.Lists.{Outputs}
 use Rattle.walk.specs.declared.side.Side.{Side}
 use Rattle.walk.specs.Walk.{Track, walk, learn, must}
-use Rattle.walk.specs.Seen.{kept_seen, known_seen, outputs_seen, LegalSide, KeptApart}
+use Rattle.walk.specs.Seen.{kept_seen, known_seen, outputs_seen, KeptApart}
 use Rattle.walk.specs.Taking.{track_seen, Reached, reached, only_reached, beside, reached_seen, told_walk, KeptOtherSide}
 use Rattle.walk.proofs.Learned.{known_kept}
 use Rattle.walk.proofs.Waiting.{kept_frame, outputs_frame}
@@ -20,12 +20,6 @@ use Rattle.correspondence.specs.Judgement.{Started, started, at_start, never_tak
 use Rattle.rules.specs.Kept.{Fit}
 use Rattle.judgement.specs.Faults.{of_walk, rule_figures}
 use Rattle.judgement.specs.Walks.{first_side, second_side, Ends, ends_of, walked}
-
-pub first_legal : (c : Counts) → Fit c → LegalSide (first_side c)
-first_legal c fit = record { registers = omega (arith, fit.registers₁); behind = omega arith; before = omega arith }
-
-pub second_legal : (c : Counts) → Fit c → LegalSide (second_side c)
-second_legal c fit = record { registers = omega (arith, fit.registers₂); behind = omega arith; before = omega arith }
 
 -- No outputs yet.
 none_seen : {X : Type 0} (ports : List ℕ) (fs : List (List X)) (first n : ℕ) → n ≡ 0 → outputs_seen ports fs first n ≡ []
@@ -102,23 +96,23 @@ module _ {D : Type 0} (c : Counts) (fit : Fit c) (known : KnownTests) (f₁ f₂
   registers_kept : kept_seen f₁ 0 c.one.registers ≡ kept_seen f₂ 0 c.one.registers
   registers_kept = sym (kept_frame f₁ f₂ 0 c.one.registers (λ j a b. first_kept j (omega (arith, fit.registers₁)) (inl (omega (arith, fit.registers₁)))))
 
-  tests_kept : known_seen known.noted f₁ 0 known.count ≡ known_seen known.noted f₂ 0 known.count
-  tests_kept = sym (known_kept known.noted f₁ f₂ known.count known.few (λ i a b. first_kept i b (inr (omega arith, inr a))))
+  tests_kept : known_seen known.items f₁ 0 known.count ≡ known_seen known.items f₂ 0 known.count
+  tests_kept = sym (known_kept known.items f₁ f₂ known.count known.few (λ i a b. first_kept i b (inr (omega arith, inr a))))
 
-  outputs_kept : (out : Outputs) → outputs_seen out.ports f₁ 64 out.count ≡ outputs_seen out.ports f₂ 64 out.count
-  outputs_kept out = sym (outputs_frame out.ports out.ports f₁ f₂ 64 out.count (λ j h. refl) (λ j h. first_kept (64 + j) (omega (arith, out.few)) (inr (omega arith, inl (omega (arith, out.few))))))
+  outputs_kept : (out : Outputs) → outputs_seen out.items f₁ 64 out.count ≡ outputs_seen out.items f₂ 64 out.count
+  outputs_kept out = sym (outputs_frame out.items out.items f₁ f₂ 64 out.count (λ j h. refl) (λ j h. first_kept (64 + j) (omega (arith, out.few)) (inr (omega arith, inl (omega (arith, out.few))))))
 
 second_kept : {D : Type 0} (c : Counts) → Fit c → (f₁ f₂ : List (Form D)) → KeptOtherSide (first_side c) f₁ f₂ → kept_seen f₂ 16 c.two.registers ≡ kept_seen f₁ 16 c.two.registers
 second_kept c fit f₁ f₂ kept = kept_frame f₁ f₂ 16 c.two.registers (λ j a b. kept j (omega (arith, fit.registers₂)) (inr (omega (arith, fit.registers₁))) (inl (omega (arith, fit.registers₂))))
 
 -- Where the walks start.
 module _ {D : Type 0} (o : Ops D) (c : Counts) (p : Pair) (state : ℕ) (out : Outputs) (none : out.count ≡ 0) (fs : List (Form D)) where
-  pub first_start : (known : KnownTests) → state ≡ p.state₁ → track_seen (first_side c) state known out fs ≡ at_start o p.state₁ (kept_seen fs 0 c.one.registers) (known_seen known.noted fs 0 known.count)
-  first_start known e = ap₂ (λ s outs. record { state = s; registers = kept_seen fs 0 c.one.registers; known = known_seen known.noted fs 0 known.count; outputs = outs }) e (none_seen out.ports fs 64 out.count none)
+  pub first_start : (known : KnownTests) → state ≡ p.state₁ → track_seen (first_side c) state known out fs ≡ at_start o p.state₁ (kept_seen fs 0 c.one.registers) (known_seen known.items fs 0 known.count)
+  first_start known e = ap₂ (λ s outs. record { state = s; registers = kept_seen fs 0 c.one.registers; known = known_seen known.items fs 0 known.count; outputs = outs }) e (none_seen out.items fs 64 out.count none)
 
   second_start : (registers : List (Form D)) → state ≡ p.state₂ → kept_seen fs 16 c.two.registers ≡ registers → beside [] (reached_seen (second_side c) state out fs) ≡ at_start o p.state₂ registers []
   second_start registers e kept =
-      ap₂ (λ s outs. record { state = s; registers = kept_seen fs 16 c.two.registers; known = []; outputs = outs }) e (none_seen out.ports fs 80 out.count none)
+      ap₂ (λ s outs. record { state = s; registers = kept_seen fs 16 c.two.registers; known = []; outputs = outs }) e (none_seen out.items fs 80 out.count none)
       ∙ ap (λ rs. record { state = p.state₂; registers = rs; known = []; outputs = [] }) kept
 
 -- The rules of an infeasible path, by its two parts.
@@ -134,9 +128,9 @@ module _ {D : Type 0} (o : Ops D) (one : Machine) (p : Pair) (path : List Bool) 
 -- Both walks in their slots: what they say of the claim, whatever the sides are called.
 module _ {D : Type 0} (o : Ops D) (one two : Machine) (c : Counts) (fit : Fit c) (p : Pair) (path₁ path₂ : List Bool) (known : KnownTests) (f₁ : List (Form D)) where
   begun : Started o
-  begun = record { registers₁ = kept_seen f₁ 0 c.one.registers; registers₂ = kept_seen f₁ 16 c.two.registers; known = known_seen known.noted f₁ 0 known.count }
+  begun = record { registers₁ = kept_seen f₁ 0 c.one.registers; registers₂ = kept_seen f₁ 16 c.two.registers; known = known_seen known.items f₁ 0 known.count }
 
-  module _ (starts : good (record { registers₁ = kept_seen f₁ 0 c.one.registers; registers₂ = kept_seen f₁ 16 c.two.registers; known = known_seen known.noted f₁ 0 known.count }) ≡ started o p) (side₁ : Side) (e₁ : side₁ ≡ first_side c) (s₁ : ℕ) (es₁ : s₁ ≡ p.state₁) (out : Outputs) (none : out.count ≡ 0) where
+  module _ (starts : good (record { registers₁ = kept_seen f₁ 0 c.one.registers; registers₂ = kept_seen f₁ 16 c.two.registers; known = known_seen known.items f₁ 0 known.count }) ≡ started o p) (side₁ : Side) (e₁ : side₁ ≡ first_side c) (s₁ : ℕ) (es₁ : s₁ ≡ p.state₁) (out : Outputs) (none : out.count ≡ 0) where
     from_start : (a : Answer (Track D)) → a ≡ walk o (learn o) one 0 path₁ (track_seen side₁ s₁ known out f₁) → a ≡ walk o (learn o) one 0 path₁ (at_start o p.state₁ begun.registers₁ begun.known)
     unfolding begun
     from_start a e =
@@ -155,21 +149,21 @@ module _ {D : Type 0} (o : Ops D) (one two : Machine) (c : Counts) (fit : Fit c)
       unfolding reached_first
       first_walked = ap (λ side. good (track_seen side r₁ known' out' f₂)) (sym e₁) ∙ from_start _ walks₁
 
-      from_second : (a : Answer (Reached D)) → a ≡ only_reached (walk o (must o (known_seen known'.noted f₂ 0 known'.count)) two 0 path₂ (beside [] (reached_seen side₂ s₂ other f₂))) → a ≡ only_reached (walk o (must o reached_first.known) two 0 path₂ (at_start o p.state₂ begun.registers₂ []))
+      from_second : (a : Answer (Reached D)) → a ≡ only_reached (walk o (must o (known_seen known'.items f₂ 0 known'.count)) two 0 path₂ (beside [] (reached_seen side₂ s₂ other f₂))) → a ≡ only_reached (walk o (must o reached_first.known) two 0 path₂ (at_start o p.state₂ begun.registers₂ []))
       unfolding reached_first begun
       from_second a e =
           let P : Side → Type 0 = λ side. KeptOtherSide side f₁ f₂ in
-          e ∙ ap (λ side. only_reached (walk o (must o (known_seen known'.noted f₂ 0 known'.count)) two 0 path₂ (beside [] (reached_seen side s₂ other f₂)))) e₂
-          ∙ ap (λ t. only_reached (walk o (must o (known_seen known'.noted f₂ 0 known'.count)) two 0 path₂ t)) (second_start o c p s₂ other none' f₂ (kept_seen f₁ 16 c.two.registers) es₂ (second_kept c fit f₁ f₂ (subst P e₁ kept₁)))
+          e ∙ ap (λ side. only_reached (walk o (must o (known_seen known'.items f₂ 0 known'.count)) two 0 path₂ (beside [] (reached_seen side s₂ other f₂)))) e₂
+          ∙ ap (λ t. only_reached (walk o (must o (known_seen known'.items f₂ 0 known'.count)) two 0 path₂ t)) (second_start o c p s₂ other none' f₂ (kept_seen f₁ 16 c.two.registers) es₂ (second_kept c fit f₁ f₂ (subst P e₁ kept₁)))
 
-      pub second_walk_fault : (y : WalkFault) (after : ℕ → Reached D) → told_walk (Err y) after ≡ only_reached (walk o (must o (known_seen known'.noted f₂ 0 known'.count)) two 0 path₂ (beside [] (reached_seen side₂ s₂ other f₂))) → refused (rule_figures (of_walk y)).number (rule_figures (of_walk y)).machine (rule_figures (of_walk y)).place ≡ walked o one two p path₁ path₂
+      pub second_walk_fault : (y : WalkFault) (after : ℕ → Reached D) → told_walk (Err y) after ≡ only_reached (walk o (must o (known_seen known'.items f₂ 0 known'.count)) two 0 path₂ (beside [] (reached_seen side₂ s₂ other f₂))) → refused (rule_figures (of_walk y)).number (rule_figures (of_walk y)).machine (rule_figures (of_walk y)).place ≡ walked o one two p path₁ path₂
       unfolding begun
       second_walk_fault y after e = second_fault o one two p path₁ path₂ begun starts reached_first first_walked y after (from_second _ e)
 
-      pub both_walked : (r₂ : ℕ) (other' : Outputs) (f₃ : List (Form D)) → good (reached_seen side₂ r₂ other' f₃) ≡ only_reached (walk o (must o (known_seen known'.noted f₂ 0 known'.count)) two 0 path₂ (beside [] (reached_seen side₂ s₂ other f₂))) → KeptApart side₂ f₂ f₃ → (a : Answer (Unit {0})) → a ≡ same_outputs o 0 (outputs_seen out'.ports f₃ 64 out'.count) (outputs_seen other'.ports f₃ 80 other'.count) → (a then λ _. good (record { state₁ = r₁; state₂ = r₂; registers₁ = kept_seen f₃ 0 c.one.registers; registers₂ = kept_seen f₃ 16 c.two.registers; known = known_seen known'.noted f₃ 0 known'.count })) ≡ walked o one two p path₁ path₂
+      pub both_walked : (r₂ : ℕ) (other' : Outputs) (f₃ : List (Form D)) → good (reached_seen side₂ r₂ other' f₃) ≡ only_reached (walk o (must o (known_seen known'.items f₂ 0 known'.count)) two 0 path₂ (beside [] (reached_seen side₂ s₂ other f₂))) → KeptApart side₂ f₂ f₃ → (a : Answer (Unit {0})) → a ≡ same_outputs o 0 (outputs_seen out'.items f₃ 64 out'.count) (outputs_seen other'.items f₃ 80 other'.count) → (a then λ _. good (record { state₁ = r₁; state₂ = r₂; registers₁ = kept_seen f₃ 0 c.one.registers; registers₂ = kept_seen f₃ 16 c.two.registers; known = known_seen known'.items f₃ 0 known'.count })) ≡ walked o one two p path₁ path₂
       unfolding reached_first begun
       both_walked r₂ other' f₃ walks₂ kept₂ a e =
           let P : Side → Type 0 = λ side. KeptApart side f₂ f₃ in
           let kept = subst P e₂ kept₂ in
           ap₂ (λ rs ks. a then λ _. good (record { state₁ = r₁; state₂ = r₂; registers₁ = rs; registers₂ = kept_seen f₃ 16 c.two.registers; known = ks })) (sym (registers_kept c fit known' f₂ f₃ kept)) (sym (tests_kept c fit known' f₂ f₃ kept))
-          ∙ by_outputs o one two p path₁ path₂ begun starts reached_first first_walked (reached_seen (second_side c) r₂ other' f₃) (ap (λ side. good (reached_seen side r₂ other' f₃)) (sym e₂) ∙ from_second _ walks₂) a (e ∙ ap (λ outs. same_outputs o 0 outs (outputs_seen other'.ports f₃ 80 other'.count)) (sym (outputs_kept c fit known' f₂ f₃ kept out')))
+          ∙ by_outputs o one two p path₁ path₂ begun starts reached_first first_walked (reached_seen (second_side c) r₂ other' f₃) (ap (λ side. good (reached_seen side r₂ other' f₃)) (sym e₂) ∙ from_second _ walks₂) a (e ∙ ap (λ outs. same_outputs o 0 outs (outputs_seen other'.items f₃ 80 other'.count)) (sym (outputs_kept c fit known' f₂ f₃ kept out')))

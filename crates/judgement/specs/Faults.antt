@@ -1,5 +1,6 @@
 -- What the faults of the rules tell.
 use Rattle.std.specs.Prelude.{Result}
+use Rattle.machine.specs.Which.{which_number}
 use Rattle.machine.specs.Answer.{Answer, good, ◌then◌, Figures, told_by}
 use Rattle.walk.specs.declared.fault.WalkFault.{WalkFault}
 use Rattle.walk.specs.declared.fault.WalkFault.TheVariants as walks
@@ -18,13 +19,13 @@ of_end (ends.Register machine register) = Register machine register
 of_end (ends.Fact place) = Fact place
 
 abbrev pub rule_figures : RuleFault → Figures
-rule_figures (ImpossibleStep machine step) = record { number = 12; machine = machine; place = step }
+rule_figures (ImpossibleStep machine step) = record { number = 12; machine = which_number machine; place = step }
 rule_figures OverLimits = record { number = 11; machine = 0; place = 0 }
 rule_figures NotInfeasible = record { number = 13; machine = 0; place = 0 }
 rule_figures (Unsettled step) = record { number = 14; machine = 2; place = step }
 rule_figures (Outputs place) = record { number = 15; machine = 0; place = place }
 rule_figures EndStates = record { number = 16; machine = 0; place = 0 }
-rule_figures (Register machine register) = record { number = 17; machine = machine; place = register }
+rule_figures (Register machine register) = record { number = 17; machine = which_number machine; place = register }
 rule_figures (Fact place) = record { number = 18; machine = 0; place = place }
 
 -- What a judgement says: that no rule fails, or the first that does.

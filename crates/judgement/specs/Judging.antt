@@ -6,7 +6,7 @@ use Rattle.machine.specs.declared.words.Limits.{Limits}
 use Rattle.machine.specs.Answer.{Answer, good, ◌then◌}
 use Rattle.machine.specs.Machine.{Machine}
 use Rattle.walk.specs.Walk.{in_order}
-use Rattle.walk.specs.Taking.{table_machine}
+use Rattle.machine.specs.Tables.{table_machine}
 use Rattle.proposal.specs.Proposal.{Pair}
 use Rattle.proposal.specs.Reading.{read, all_stored, count_from}
 use Rattle.rules.specs.declared.counts.Counts.{Counts}

@@ -3,6 +3,7 @@ use Rattle.std.specs.Prelude.{ℕ, ◌+◌, Bool, ◌&&◌, List, [], Ok, Err, R
 use Rattle.domain.specs.Ring.{Ops}
 use Rattle.forms.specs.Forms.{Form, same_form}
 use Rattle.machine.specs.Answer.{Answer, good, refused}
+use Rattle.judgement.specs.declared.outputs.OtherOutput.{OtherOutput}
 
 -- the first slots of the outputs of either path
 abbrev pub first_outputs : ℕ
@@ -20,6 +21,6 @@ abbrev pub same_output : {D : Type 0} → Ops D → (x y : ℕ × Form D) → Bo
 same_output o x y = x.0 == y.0 && same_form o x.1 y.1
 
 -- What a comparison of outputs says: the first that differs or is missing is refused (15).
-abbrev pub told_outputs : {U : Type 0} → Result U ℕ → Answer (Unit {0})
+abbrev pub told_outputs : {U : Type 0} → Result U OtherOutput → Answer (Unit {0})
 told_outputs (Ok u) = good tt
-told_outputs (Err j) = refused 15 0 j
+told_outputs (Err e) = refused 15 0 e.place

@@ -1,9 +1,12 @@
 -- Both paths of a claim, walked from its start pair.
+use Rattle.std.proofs.Common.{arith}
 use Rattle.std.specs.Prelude.{◌≡◌, ℕ, Bool, List, [], Result}
 use Rattle.domain.specs.Ring.{Ops}
 use Rattle.forms.specs.Forms.{Form}
 use Rattle.machine.specs.Answer.{Answer, good, ◌then◌, told_by}
 use Rattle.machine.specs.Machine.{Machine}
+use Rattle.machine.specs.declared.which.Which.{Which}
+use Rattle.machine.specs.declared.which.Which.TheVariants.{First, Second}
 use Rattle.machine.specs.Reading.{table}
 use Rattle.walk.specs.declared.side.Side.{Side}
 use Rattle.walk.specs.Settled.{Known}
@@ -37,10 +40,26 @@ pub record StandsAt (h : PairHead) (p : Pair) : Type 0 where
 
 -- Where the forms of either machine are kept.
 abbrev pub first_side : Counts → Side
-first_side c = record { registers = record { first = 0; count = c.one.registers }; outputs = 64 }
+first_side c = record {
+  registers = record { first = 0; count = c.one.registers; below = omega (arith, c.registers_one) };
+  outputs = 64;
+  low = omega (arith, c.registers_one);
+  behind = omega arith;
+  before = omega arith;
+}
 
 abbrev pub second_side : Counts → Side
-second_side c = record { registers = record { first = 16; count = c.two.registers }; outputs = 80 }
+second_side c = record {
+  registers = record { first = 16; count = c.two.registers; below = omega (arith, c.registers_two) };
+  outputs = 80;
+  low = omega (arith, c.registers_two);
+  behind = omega arith;
+  before = omega arith;
+}
+
+abbrev pub side_of : Counts → Which → Side
+side_of c First = first_side c
+side_of c Second = second_side c
 
 -- Where both paths end: the states, the registers, and what is known.
 pub record Ends (D : Type 0) : Type 0 where
@@ -71,7 +90,7 @@ module _ {D : Type 0} (o : Ops D) where
       good (ends_of t u)
 
   abbrev pub walked_seen : Walked → List (Form D) → Counts → Ends D
-  walked_seen w fs c = record { state₁ = w.first; state₂ = w.second; registers₁ = kept_seen fs 0 c.one.registers; registers₂ = kept_seen fs 16 c.two.registers; known = known_seen w.known.noted fs 0 w.known.count }
+  walked_seen w fs c = record { state₁ = w.first; state₂ = w.second; registers₁ = kept_seen fs 0 c.one.registers; registers₂ = kept_seen fs 16 c.two.registers; known = known_seen w.known.items fs 0 w.known.count }
 
   abbrev pub told_walked : Result Walked RuleFault → List (Form D) → Counts → Answer (Ends D)
   told_walked r fs c = told_by rule_figures r then λ w. good (walked_seen w fs c)

@@ -3,6 +3,8 @@ ghost use Rattle.std.specs.Prelude.{◌≡◌};
 ghost use Rattle.judgement.specs.declared.fault.RuleFault.TheVariants as RuleFault;
 ghost use Rattle.judgement.specs.Faults.{of_walk, of_end};
 
+use crate::outputs::OtherOutput;
+use machine::which::Which;
 use rules::fault::EndFault;
 use walk::fault::WalkFault;
 use workspace::OverLimits;
@@ -10,13 +12,13 @@ use workspace::OverLimits;
 // A step that is impossible, a value over the limits, or the first rule that fails.
 #[derive(Clone, Copy)]
 pub enum RuleFault {
-    ImpossibleStep { machine: u32, step: usize },
+    ImpossibleStep { machine: Which, step: usize },
     OverLimits,
     NotInfeasible,
     Unsettled(usize),
     Outputs(usize),
     EndStates,
-    Register { machine: u32, register: u32 },
+    Register { machine: Which, register: u32 },
     Fact(usize),
 }
 
@@ -25,6 +27,14 @@ impl From<OverLimits> for RuleFault {
 
     fn from(e: OverLimits) -> RuleFault {
         RuleFault::OverLimits
+    }
+}
+
+impl From<OtherOutput> for RuleFault {
+    ghost from_gives = { λ e f. f ≡ RuleFault.Outputs e.place };
+
+    fn from(e: OtherOutput) -> RuleFault {
+        RuleFault::Outputs(e.place)
     }
 }
 

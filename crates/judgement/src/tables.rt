@@ -1,10 +1,15 @@
 // The two tables of a comparison.
+ghost use Rattle.std.specs.Prelude.{◌≡◌};
+
+use machine::accepted::Table;
 use rules::counts::Counts;
 
-// The words of both tables, and their counts.
+// Both tables, accepted, and their counts.
 #[derive(Clone, Copy)]
 pub struct Tables<'a> {
-    pub first: &'a [u32],
-    pub second: &'a [u32],
+    pub first: Table<'a>,
+    pub second: Table<'a>,
     pub counts: Counts,
+    ghost first_is: { first.head ≡ counts.one },
+    ghost second_is: { second.head ≡ counts.two },
 }

@@ -1,3 +1,4 @@
+pub mod Opened
 pub mod Accepts
 pub mod Blocks
 pub mod Chains
@@ -12,3 +13,4 @@ pub mod Parts
 pub mod Runs
 pub mod Steps
 pub mod Storing
+pub mod Places

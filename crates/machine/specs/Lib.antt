@@ -6,3 +6,6 @@ pub mod Runs
 pub mod Reading
 pub mod Encode
 pub mod Views
+pub mod Tables
+pub mod Accepted
+pub mod Which

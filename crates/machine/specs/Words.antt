@@ -1,5 +1,5 @@
 -- Which words may stand where, and where what begins at a place ends.
-use Rattle.std.specs.Prelude.{ℕ, ◌+◌, ◌/◌, ◌%◌, Bool, cond, ◌&&◌, List, [], ◌∷◌, Some, None, Option, Result, nat_le, nat_lt, slice_index, slice_range}
+use Rattle.std.specs.Prelude.{◌≡◌, ℕ, ◌+◌, ◌/◌, ◌%◌, ◌<◌, ◌≤◌, Bool, true, false, not, cond, ◌&&◌, ◌||◌, length, List, [], ◌∷◌, Some, None, Option, Result, nat_le, nat_lt, slice_index, slice_range}
 use Rattle.expression.specs.Words.{kind, number}
 use Rattle.machine.specs.declared.words.Limits.{Limits}
 use Rattle.machine.specs.declared.words.WordFault.{WordFault}
@@ -23,6 +23,19 @@ ends w = nat_le 6 (kind w)
 abbrev pub ending : Limits → ℕ → List ℕ → Answer ℕ
 ending l p [] = refused 3 0 p
 ending l p (w ∷ ws) = check (legal l w) 2 0 p then λ _. cond (ends w) (good p) (ending l (p + 1) ws)
+
+-- A word at which the search for an end stops.
+abbrev pub stops : Limits → ℕ → Bool
+stops l w = not (legal l w) || ends w
+
+-- The first place from p on whose word passes the test, if there is one.
+abbrev pub FirstPlace : (ℕ → Bool) → List ℕ → ℕ → Option ℕ → Type 0
+FirstPlace test ws p None = (k : ℕ) → p ≤ k → k < length ws → test (slice_index ws k) ≡ false
+FirstPlace test ws p (Some q) = (p ≤ q) × (q < length ws) × (test (slice_index ws q) ≡ true) × ((k : ℕ) → p ≤ k → k < q → test (slice_index ws k) ≡ false)
+
+-- The first place from p on whose word ends what stands before it.
+abbrev pub FirstEnd : List ℕ → ℕ → Option ℕ → Type 0
+FirstEnd = FirstPlace ends
 
 abbrev pub word_figures : WordFault → Figures
 word_figures (Forbidden p) = record { number = 2; machine = 0; place = p }

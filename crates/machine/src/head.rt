@@ -1,5 +1,6 @@
 // The head of a table: its counts, and what they allow in the words behind it.
 ghost use Rattle.std.specs.Prelude.{◌≡◌};
+ghost use Rattle.std.specs.Result.{result_ok};
 ghost use Rattle.machine.specs.Words.{head_of, table_limits};
 
 use crate::words::Limits;
@@ -22,11 +23,17 @@ const TESTS: u32 = 2;
 
 const PORTS: u32 = 16;
 
-impl Head {
+// A head with a count out of range.
+#[derive(Clone, Copy, PartialEq, Eq)]
+pub struct BadHead;
+
+impl TryFrom<u32> for Head {
+    type Error = BadHead;
+
+    ghost try_from_gives = { λ w r. result_ok r ≡ head_of w };
+
     // The head that a word is, if its counts are in range.
-    pub fn of(word: u32) -> Option<Head>
-        ensures { result ≡ head_of word }
-    {
+    fn try_from(word: u32) -> Result<Head, BadHead> {
         let states = word / 65536;
         let registers = word / 256 % 256;
         let inputs = word % 256;
@@ -35,15 +42,17 @@ impl Head {
             || registers > MOST_REGISTERS
             || inputs > MOST_INPUTS
         {
-            return None;
+            return Err(BadHead);
         }
-        Some(Head {
+        Ok(Head {
             states,
             registers,
             inputs,
         })
     }
+}
 
+impl Head {
     // What may stand in a table with this head.
     pub fn limits(&self) -> Limits
         ensures { result ≡ table_limits self.now }

@@ -1,11 +1,16 @@
 // The reader: whether words are a table, judged word by word.
 ghost use Rattle.std.specs.Prelude.{◌≡◌, ◌<◌, ◌≤◌, length, IfOk, if◌then◌else◌};
+ghost use Rattle.machine.specs.Accepted.{told_counts};
+ghost use Rattle.machine.specs.declared.table.TableFault.TheVariants as TableFault;
 ghost use Rattle.machine.specs.Reading.{table_figures, told, of_words, fresh, acts, marked, transition, row, rows, table};
 
-use crate::head::Head;
-use crate::words::{Limits, WordFault, ending_at};
+use crate::accepted::Table;
+use crate::head::{BadHead, Head};
+use crate::refusal::Refusal;
+use crate::words::{Reader, WordFault};
+use expression::kind::Kind;
 use expression::shape::{is_expression, split_of};
-use expression::words::{kind_of, number_of};
+use expression::words::number_of;
 
 // Why a table is refused, with the place of the word.
 #[derive(Clone, Copy)]
@@ -29,11 +34,18 @@ impl From<WordFault> for TableFault {
     }
 }
 
-impl TableFault {
-    // The number of the refusal.
-    pub fn number(self) -> u32
-        ensures { result ≡ (table_figures self).number }
-    {
+impl From<BadHead> for TableFault {
+    ghost from_gives = { λ b f. f ≡ TableFault.BadHead };
+
+    fn from(b: BadHead) -> TableFault {
+        TableFault::BadHead
+    }
+}
+
+impl Refusal for TableFault {
+    ghost figures = { table_figures };
+
+    fn number(self) -> u32 {
         match self {
             TableFault::BadHead => 1,
             TableFault::Forbidden(_) => 2,
@@ -44,10 +56,8 @@ impl TableFault {
         }
     }
 
-    // The place that it names: the word that is refused, or the first that is missing, left over or beyond the length.
-    pub fn place(self) -> usize
-        ensures { result ≡ (table_figures self).place }
-    {
+    // The word that is refused, or the first that is missing, left over or beyond the length.
+    fn place(self) -> usize {
         match self {
             TableFault::TooLong => LONGEST,
             TableFault::Empty | TableFault::BadHead => 0,
@@ -64,14 +74,6 @@ const MOST_ACTIONS: usize = 8;
 
 const MOST_REGISTERS: usize = 16;
 
-const TEST: u32 = 6;
-
-const STORE: u32 = 7;
-
-const EMIT: u32 = 8;
-
-const GO_TO: u32 = 9;
-
 // Whether `end` may end the action with this expression; a register that it stores is marked.
 fn act(items: &[u32], end: u32, stored: &mut [bool; 16]) -> bool
     ensures answer { result ≡ acts items.now stored.old end }
@@ -80,9 +82,8 @@ fn act(items: &[u32], end: u32, stored: &mut [bool; 16]) -> bool
     if !is_expression(items) {
         return false;
     }
-    let kind = kind_of(end);
-    if kind != STORE {
-        return kind == EMIT;
+    if !Kind::Store.is_of(end) {
+        return Kind::Emit.is_of(end);
     }
     let register = number_of(end) as usize;
     if register < MOST_REGISTERS {
@@ -94,61 +95,65 @@ fn act(items: &[u32], end: u32, stored: &mut [bool; 16]) -> bool
     true
 }
 
-// The place behind the transition that begins at `from`.
-fn transition_end(words: &[u32], limits: &Limits, from: usize) -> Result<usize, TableFault>
-    requires { from ≤ length words.now }
-    ensures reads { told result ≡ transition limits.now words.now 8 fresh from }
-    ensures within { IfOk result (λ q. (from < q) × (q ≤ length words.now)) }
-{
-    let mut stored = [false; 16];
-    let mut left: usize = MOST_ACTIONS;
-    let mut p = from;
-    'actions: loop {
-        let q = ending_at(words, limits, p)?;
-        let end = words[q];
-        if kind_of(end) == GO_TO {
-            return if p == q {
-                Ok(q + 1)
-            } else {
-                Err(TableFault::Forbidden(q))
-            };
+impl Reader<'_> {
+    // The place behind the transition that begins at `from`.
+    fn transition_end(&self, from: usize) -> Result<usize, TableFault>
+        requires { from ≤ length self.now.words.now }
+        ensures reads { told result ≡ transition self.now.limits self.now.words.now 8 fresh from }
+        ensures within { IfOk result (λ q. (from < q) × (q ≤ length self.now.words.now)) }
+    {
+        let words = self.words;
+        let mut stored = [false; 16];
+        let mut left: usize = MOST_ACTIONS;
+        let mut p = from;
+        'actions: loop {
+            let q = self.ending_at(p)?;
+            let end = words[q];
+            if Kind::Goto.is_of(end) {
+                return if p == q {
+                    Ok(q + 1)
+                } else {
+                    Err(TableFault::Forbidden(q))
+                };
+            }
+            if left == 0 || !act(&words[p..q], end, &mut stored) {
+                return Err(TableFault::Forbidden(q));
+            }
+            left -= 1;
+            p = q + 1;
         }
-        if left == 0 || !act(&words[p..q], end, &mut stored) {
-            return Err(TableFault::Forbidden(q));
+    }
+
+    // The place behind the row that begins at `from`.
+    pub(crate) fn row_end(&self, from: usize) -> Result<usize, TableFault>
+        requires { from ≤ length self.now.words.now }
+        ensures reads { told result ≡ row self.now.limits self.now.words.now from }
+        ensures within { IfOk result (λ q. (from < q) × (q ≤ length self.now.words.now)) }
+    {
+        let words = self.words;
+        let test = self.ending_at(from)?;
+        if !Kind::Test.is_of(words[test]) {
+            return self.transition_end(from);
         }
-        left -= 1;
-        p = q + 1;
+        if split_of(&words[from..test]).is_none() {
+            return Err(TableFault::Forbidden(test));
+        }
+        let no = self.transition_end(test + 1)?;
+        self.transition_end(no)
     }
-}
 
-// The place behind the row that begins at `from`.
-pub(crate) fn row_end(words: &[u32], limits: &Limits, from: usize) -> Result<usize, TableFault>
-    requires { from ≤ length words.now }
-    ensures reads { told result ≡ row limits.now words.now from }
-    ensures within { IfOk result (λ q. (from < q) × (q ≤ length words.now)) }
-{
-    let test = ending_at(words, limits, from)?;
-    if kind_of(words[test]) != TEST {
-        return transition_end(words, limits, from);
+    // The place behind the first `n` rows; the first stands behind the head.
+    pub(crate) fn rows_end(&self, n: u32) -> Result<usize, TableFault>
+        requires { 1 ≤ length self.now.words.now }
+        ensures reads { told result ≡ rows self.now.limits self.now.words.now n }
+        ensures within { IfOk result (λ q. (1 ≤ q) × (q ≤ length self.now.words.now)) }
+    {
+        let mut p = 1;
+        for row in 0..n {
+            p = self.row_end(p)?;
+        }
+        Ok(p)
     }
-    if split_of(&words[from..test]).is_none() {
-        return Err(TableFault::Forbidden(test));
-    }
-    let no = transition_end(words, limits, test + 1)?;
-    transition_end(words, limits, no)
-}
-
-// The place behind the first `n` rows; the first stands behind the head.
-pub(crate) fn rows_end(words: &[u32], limits: &Limits, n: u32) -> Result<usize, TableFault>
-    requires { 1 ≤ length words.now }
-    ensures reads { told result ≡ rows limits.now words.now n }
-    ensures within { IfOk result (λ q. (1 ≤ q) × (q ≤ length words.now)) }
-{
-    let mut p = 1;
-    for i in 0..n {
-        p = row_end(words, limits, p)?;
-    }
-    Ok(p)
 }
 
 // The counts of an accepted table, or the first fault of its words.
@@ -158,16 +163,28 @@ pub fn read_table(words: &[u32]) -> Result<Head, TableFault>
     if words.len() > LONGEST {
         return Err(TableFault::TooLong);
     }
-    if words.is_empty() {
+    let Some(first) = words.first() else {
         return Err(TableFault::Empty);
-    }
-    let Some(head) = Head::of(words[0]) else {
-        return Err(TableFault::BadHead);
     };
-    let limits = head.limits();
-    let end = rows_end(words, &limits, head.states)?;
+    let head = Head::try_from(*first)?;
+    let reader = Reader {
+        words,
+        limits: head.limits(),
+    };
+    let end = reader.rows_end(head.states)?;
     if end < words.len() {
         return Err(TableFault::LeftOver(end));
     }
     Ok(head)
+}
+
+impl<'a> Table<'a> {
+    // The table that words are, or their first fault.
+    pub fn read(words: &'a [u32]) -> Result<Table<'a>, TableFault>
+        ensures counts { told_counts result ≡ table words.now }
+        ensures words { IfOk result (λ t. t.words.now ≡ words.now) }
+    {
+        let head = read_table(words)?;
+        Ok(Table { words, head })
+    }
 }

@@ -5,11 +5,11 @@ ghost use Rattle.machine.specs.Views.{seen, ahead, read, parts_cut, viewed, Enco
 
 use crate::head::Head;
 use crate::row::Row;
-use crate::table::{row_end, rows_end};
-use crate::words::is_end;
+use crate::words::{Reader, next_end};
+use expression::kind::Kind;
 use expression::shape::split_of;
 use expression::test::Test;
-use expression::words::{kind_of, number_of};
+use expression::words::number_of;
 
 // The words of an expression, and what the word behind them does with its value. A test has two expressions.
 #[derive(Clone, Copy)]
@@ -44,8 +44,8 @@ fn part_of<'a>(items: &'a [u32], end: u32) -> Part<'a>
     ensures { seen result ≡ part_of items.now end }
 {
     let n = number_of(end);
-    match kind_of(end) {
-        6 => {
+    match Kind::of(end) {
+        Kind::Test => {
             let (left, right) = items.split_at(cut_of(items));
             Part::Test {
                 test: Test::of(n),
@@ -53,11 +53,11 @@ fn part_of<'a>(items: &'a [u32], end: u32) -> Part<'a>
                 right,
             }
         }
-        7 => Part::Store {
+        Kind::Store => Part::Store {
             register: n,
             value: items,
         },
-        8 => Part::Emit {
+        Kind::Emit => Part::Emit {
             port: n,
             value: items,
         },
@@ -65,23 +65,9 @@ fn part_of<'a>(items: &'a [u32], end: u32) -> Part<'a>
     }
 }
 
-// The place of the next word that ends a part, from `from` on.
-fn part_end(words: &[u32], from: usize) -> Option<usize>
-    ensures parts { parts [] (drop from words.now) ≡ parts_cut words.now from result }
-    ensures within { IfSome result (λ q. (from ≤ q) × (q < length words.now)) }
-{
-    let mut i = from;
-    while i < words.len() {
-        if is_end(words[i]) {
-            return Some(i);
-        }
-        i += 1;
-    }
-    None
-}
-
 impl<'a> Row<'a> {
     // The next part of the row, if there is one.
+    #[tactic(auto, using(crate::proofs::Places::parts_found))]
     pub fn next_part(&mut self) -> Option<Part<'a>>
         ensures parts { ahead self.old ≡ read result (ahead self.new) }
         ensures ended { IfNone result (self.new ≡ self.old) }
@@ -90,7 +76,7 @@ impl<'a> Row<'a> {
     {
         let words = self.words;
         let from = self.cursor;
-        let end = part_end(words, from)?;
+        let end = next_end(words, from)?;
         self.cursor = end + 1;
         Some(part_of(&words[from..end], words[end]))
     }
@@ -115,16 +101,17 @@ impl<'a> Row<'a> {
 fn find_row<'a>(words: &'a [u32], state: u32) -> Option<Row<'a>>
     ensures { viewed result ≡ table_row words.now state }
 {
-    if words.is_empty() {
-        return None;
-    }
-    let head = Head::of(words[0])?;
+    let first = words.first()?;
+    let head = Head::try_from(*first).ok()?;
     if state >= head.states {
         return None;
     }
-    let limits = head.limits();
-    let start = rows_end(words, &limits, state).ok()?;
-    let end = row_end(words, &limits, start).ok()?;
+    let reader = Reader {
+        words,
+        limits: head.limits(),
+    };
+    let start = reader.rows_end(state).ok()?;
+    let end = reader.row_end(start).ok()?;
     Some(Row {
         words: &words[start..end],
         start,

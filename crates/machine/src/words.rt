@@ -1,8 +1,10 @@
 // Which words may stand where: one rule for tables, pairs and claims.
 ghost use Rattle.std.specs.Prelude.{◌≡◌, ◌<◌, ◌≤◌, length, drop, IfOk};
-ghost use Rattle.machine.specs.Words.{bound, legal, ends, ending, word_told};
+ghost use Rattle.expression.specs.Kinds.{kind_number};
+ghost use Rattle.machine.specs.Words.{bound, legal, ends, ending, word_told, stops, FirstPlace, FirstEnd};
 
-use expression::words::{kind_of, number_of};
+use expression::kind::Kind;
+use expression::words::number_of;
 
 // How many numbers each kind of word has where it is read; a kind that may not stand there has none.
 #[derive(Clone, Copy)]
@@ -27,24 +29,28 @@ const CONSTANTS: u32 = 1 << 28;
 
 const OPERATIONS: u32 = 4;
 
-// The first kind that ends what stands before it.
-const TEST: u32 = 6;
+// Words, and what may stand in them.
+#[derive(Clone, Copy)]
+pub struct Reader<'a> {
+    pub words: &'a [u32],
+    pub limits: Limits,
+}
 
 impl Limits {
     // How many numbers words of a kind may have.
-    pub fn bound_of(&self, kind: u32) -> u32
-        ensures { result ≡ bound self.now kind }
+    pub fn bound_of(&self, kind: Kind) -> u32
+        ensures { result ≡ bound self.now (kind_number kind) }
     {
         match kind {
-            1 => CONSTANTS,
-            2 => self.registers,
-            3 => self.inputs,
-            4 => self.symbols,
-            5 => OPERATIONS,
-            6 => self.tests,
-            7 => self.stores,
-            8 => self.ports,
-            9 => self.states,
+            Kind::Constant => CONSTANTS,
+            Kind::Register => self.registers,
+            Kind::Input => self.inputs,
+            Kind::Symbol => self.symbols,
+            Kind::Operation => OPERATIONS,
+            Kind::Test => self.tests,
+            Kind::Store => self.stores,
+            Kind::Emit => self.ports,
+            Kind::Goto => self.states,
             _ => 0,
         }
     }
@@ -53,7 +59,7 @@ impl Limits {
     pub fn allows(&self, word: u32) -> bool
         ensures { result ≡ legal self.now word }
     {
-        number_of(word) < self.bound_of(kind_of(word))
+        number_of(word) < self.bound_of(Kind::of(word))
     }
 }
 
@@ -61,23 +67,44 @@ impl Limits {
 pub fn is_end(word: u32) -> bool
     ensures { result ≡ ends word }
 {
-    kind_of(word) >= TEST
+    Kind::of(word) >= Kind::Test
 }
 
-// The place of the word that ends what begins at `from`.
-pub fn ending_at(words: &[u32], limits: &Limits, from: usize) -> Result<usize, WordFault>
-    ensures reads { word_told result ≡ ending limits.now from (drop from words.now) }
-    ensures within { IfOk result (λ q. (from ≤ q) × (q < length words.now)) }
+// The place of the first word, from `from` on, that ends what stands before it.
+pub fn next_end(words: &[u32], from: usize) -> Option<usize>
+    ensures { FirstEnd words.now from result }
 {
-    let mut i = from;
-    while i < words.len() {
-        if !limits.allows(words[i]) {
-            return Err(WordFault::Forbidden(i));
-        }
-        if is_end(words[i]) {
-            return Ok(i);
-        }
-        i += 1;
+    (from..words.len()).find(|i| is_end(words[*i]))
+}
+
+impl Reader<'_> {
+    // Whether a word may not stand here, or ends what stands before it.
+    fn stops(&self, word: u32) -> bool
+        ensures { result ≡ stops self.now.limits word }
+    {
+        !self.limits.allows(word) || is_end(word)
     }
-    Err(WordFault::EndsEarly(i))
+
+    // The place of the first word, from `from` on, at which the search for an end stops.
+    fn first_stop(&self, from: usize) -> Option<usize>
+        ensures { FirstPlace (stops self.now.limits) self.now.words.now from result }
+    {
+        let words = self.words;
+        (from..words.len()).find(|i| self.stops(words[*i]))
+    }
+
+    // The place of the word that ends what begins at `from`.
+    pub fn ending_at(&self, from: usize) -> Result<usize, WordFault>
+        ensures reads { word_told result ≡ ending self.now.limits from (drop from self.now.words.now) }
+        ensures within { IfOk result (λ q. (from ≤ q) × (q < length self.now.words.now)) }
+    {
+        let words = self.words;
+        let Some(place) = self.first_stop(from) else {
+            return Err(WordFault::EndsEarly(from.max(words.len())));
+        };
+        if !self.limits.allows(words[place]) {
+            return Err(WordFault::Forbidden(place));
+        }
+        Ok(place)
+    }
 }

@@ -6,3 +6,4 @@ pub mod Masks
 pub mod Bodies
 pub mod Cuts
 pub mod Accepted
+pub mod Ends

@@ -1,8 +1,9 @@
 -- What the claims of the code stand for.
-use Rattle.std.specs.Prelude.{ℕ, Bool, not, List, map, Result}
+use Rattle.std.specs.Prelude.{ℕ, Bool, true, false, not, List, map, Result}
 use Rattle.machine.specs.Answer.{Answer, good, ◌then◌}
 use Rattle.proposal.specs.declared.claim.Path as declared_path
 use Rattle.proposal.specs.declared.claim.ClaimHead.{ClaimHead}
+use Rattle.proposal.specs.declared.claim.ClaimHead.TheVariants as heads
 use Rattle.proposal.specs.declared.claim.Claim as declared
 use Rattle.proposal.specs.declared.claim.Claim.TheVariants as variants
 use Rattle.proposal.specs.declared.fault.ClaimFault.{ClaimFault}
@@ -18,8 +19,16 @@ abbrev pub claim_of : declared.Claim → Claim
 claim_of (variants.Live start end first second) = live start end (turns_of first) (turns_of second)
 claim_of (variants.Infeasible start first) = infeasible start (turns_of first)
 
+abbrev pub live_head : (start end : ℕ) → HeadOfClaim
+live_head s e = record { start = s; end = e; infeasible = false }
+
+-- An infeasible claim has no end pair.
+abbrev pub infeasible_head : (start : ℕ) → HeadOfClaim
+infeasible_head s = record { start = s; end = 0; infeasible = true }
+
 abbrev pub head_seen : ClaimHead → HeadOfClaim
-head_seen h = record { start = h.start; end = h.end; infeasible = h.infeasible }
+head_seen (heads.Live s e) = live_head s e
+head_seen (heads.Infeasible s) = infeasible_head s
 
 -- What a result says, seen as the definitions have it.
 abbrev pub claim_head_told : Result ClaimHead ClaimFault → Answer HeadOfClaim

@@ -1,13 +1,15 @@
 // The reader of claims: a path of the first machine from a start pair, and a path of the second to an end pair, with the end pair's symbols as expressions; or that the first path is infeasible.
 ghost use Rattle.std.specs.Prelude.{◌≡◌, ◌/◌, ◌%◌, ◌^◌, not, ◌&&◌, ◌||◌, ◌==◌, nat_le, nat_lt};
+ghost use Rattle.expression.specs.Kinds.{kind_number};
 ghost use Rattle.expression.specs.Words.{kind, number};
 ghost use Rattle.proposal.specs.Reading.{read_claim_head, read_live, read_infeasible, read_claim};
-ghost use Rattle.proposal.specs.Claims.{turns_of, head_seen, claim_head_told, path_told, told, path_word, the_claim};
+ghost use Rattle.proposal.specs.Claims.{turns_of, live_head, infeasible_head, claim_head_told, path_told, told, path_word, the_claim};
 
 use crate::fault::ClaimFault;
 use crate::stored::substitution_end;
-use expression::words::{kind_of, number_of};
-use machine::words::Limits;
+use expression::kind::Kind;
+use expression::words::number_of;
+use machine::words::{Limits, Reader};
 
 // A path: how many steps it takes, and their turns. Step i turns no where bit i is 1.
 #[derive(Clone, Copy)]
@@ -31,19 +33,12 @@ pub enum Claim {
     },
 }
 
-// The first word of a claim. The end pair of an infeasible one is 0.
+// The first word of a claim.
 #[derive(Clone, Copy)]
-struct ClaimHead {
-    start: u32,
-    end: u32,
-    infeasible: bool,
+enum ClaimHead {
+    Live { start: u32, end: u32 },
+    Infeasible { start: u32 },
 }
-
-const CLAIM: u32 = 11;
-
-const FIRST_PATH: u32 = 12;
-
-const SECOND_PATH: u32 = 13;
 
 const LONGEST_PATH: u32 = 16;
 
@@ -53,7 +48,7 @@ fn is_head(word: u32) -> bool
 {
     let flags = number_of(word) / 65536;
     let end = number_of(word) / 256 % 256;
-    kind_of(word) == CLAIM && flags <= 1 && (flags != 1 || end == 0)
+    Kind::Claim.is_of(word) && flags <= 1 && (flags != 1 || end == 0)
 }
 
 // The head that the first word of a claim is.
@@ -64,10 +59,13 @@ fn head_of(word: u32) -> Result<ClaimHead, ClaimFault>
         return Err(ClaimFault::Malformed(0));
     }
     let number = number_of(word);
-    Ok(ClaimHead {
-        start: number % 256,
+    let start = number % 256;
+    if number / 65536 == 1 {
+        return Ok(ClaimHead::Infeasible { start });
+    }
+    Ok(ClaimHead::Live {
+        start,
         end: number / 256 % 256,
-        infeasible: number / 65536 == 1,
     })
 }
 
@@ -80,14 +78,14 @@ fn is_path(n: u32) -> bool
 }
 
 // The path at a place.
-fn path_at(words: &[u32], which: u32, place: usize) -> Result<Path, ClaimFault>
-    ensures { path_told result ≡ path_word which words.now place }
+fn path_at(words: &[u32], which: Kind, place: usize) -> Result<Path, ClaimFault>
+    ensures { path_told result ≡ path_word (kind_number which) words.now place }
 {
     if place >= words.len() {
         return Err(ClaimFault::Malformed(place));
     }
     let number = number_of(words[place]);
-    if kind_of(words[place]) != which || !is_path(number) {
+    if !which.is_of(words[place]) || !is_path(number) {
         return Err(ClaimFault::Malformed(place));
     }
     Ok(Path {
@@ -100,21 +98,18 @@ fn path_at(words: &[u32], which: u32, place: usize) -> Result<Path, ClaimFault>
 fn read_infeasible(
     symbols: &[u32],
     words: &[u32],
-    head: ClaimHead,
+    start: u32,
     first: Path,
 ) -> Result<Claim, ClaimFault>
-    ensures { told result ≡ the_claim (read_infeasible 0 symbols.now words.now (head_seen head) (turns_of first)) }
+    ensures { told result ≡ the_claim (read_infeasible 0 symbols.now words.now (infeasible_head start) (turns_of first)) }
 {
-    if head.start as usize >= symbols.len() {
+    if start as usize >= symbols.len() {
         return Err(ClaimFault::NotFiled);
     }
     if words.len() != 2 {
         return Err(ClaimFault::Malformed(2));
     }
-    Ok(Claim::Infeasible {
-        start: head.start,
-        first,
-    })
+    Ok(Claim::Infeasible { start, first })
 }
 
 // A live claim: its second path, then its pairs, which are filed, then the substitution and nothing behind it.
@@ -122,33 +117,35 @@ fn read_live(
     inputs: u32,
     symbols: &[u32],
     words: &[u32],
-    head: ClaimHead,
+    start: u32,
+    end: u32,
     first: Path,
 ) -> Result<Claim, ClaimFault>
-    ensures { told result ≡ the_claim (read_live inputs symbols.now words.now (head_seen head) (turns_of first)) }
+    ensures { told result ≡ the_claim (read_live inputs symbols.now words.now (live_head start end) (turns_of first)) }
 {
-    let second = path_at(words, SECOND_PATH, 2)?;
-    let start = head.start as usize;
-    let end = head.end as usize;
-    if start >= symbols.len() || end >= symbols.len() {
+    let second = path_at(words, Kind::SecondPath, 2)?;
+    let Some(start_symbols) = symbols.get(start as usize) else {
         return Err(ClaimFault::NotFiled);
-    }
+    };
+    let Some(end_symbols) = symbols.get(end as usize) else {
+        return Err(ClaimFault::NotFiled);
+    };
     let limits = Limits {
         registers: 0,
         inputs,
-        symbols: symbols[start],
+        symbols: *start_symbols,
         tests: 0,
-        stores: symbols[end],
+        stores: *end_symbols,
         ports: 0,
         states: 0,
     };
-    let behind = substitution_end(words, &limits, symbols[end], 3)?;
+    let behind = substitution_end(&Reader { words, limits }, *end_symbols, 3)?;
     if behind != words.len() {
         return Err(ClaimFault::Malformed(behind));
     }
     Ok(Claim::Live {
-        start: head.start,
-        end: head.end,
+        start,
+        end,
         first,
         second,
     })
@@ -158,13 +155,13 @@ fn read_live(
 pub fn read_claim(inputs: u32, symbols: &[u32], words: &[u32]) -> Result<Claim, ClaimFault>
     ensures { told result ≡ the_claim (read_claim inputs symbols.now words.now) }
 {
-    if words.is_empty() {
+    let Some(first) = words.first() else {
         return Err(ClaimFault::Malformed(0));
+    };
+    let head = head_of(*first)?;
+    let path = path_at(words, Kind::FirstPath, 1)?;
+    match head {
+        ClaimHead::Infeasible { start } => read_infeasible(symbols, words, start, path),
+        ClaimHead::Live { start, end } => read_live(inputs, symbols, words, start, end, path),
     }
-    let head = head_of(words[0])?;
-    let first = path_at(words, FIRST_PATH, 1)?;
-    if head.infeasible {
-        return read_infeasible(symbols, words, head, first);
-    }
-    read_live(inputs, symbols, words, head, first)
 }

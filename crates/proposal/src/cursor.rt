@@ -5,7 +5,7 @@ ghost use Rattle.proposal.specs.Cursors.{next_end, CutsStored, fact_places, Cuts
 use expression::shape::split_of;
 use expression::test::Test;
 use expression::words::number_of;
-use machine::words::is_end;
+use machine::words::next_end;
 
 // A fact in words: where its second expression begins, where its test stands, and that test with its answer.
 #[derive(Clone, Copy)]
@@ -16,19 +16,12 @@ pub struct FactAt {
     pub says: bool,
 }
 
-// The place of the next word that ends something, from `from` on.
-fn next_end(words: &[u32], from: usize) -> usize
+// The place of the next word that ends something, from `from` on, or the place behind them all.
+fn end_from(words: &[u32], from: usize) -> usize
     ensures place { result ≡ next_end from (drop from words.now) }
     ensures after { from ≤ result }
 {
-    let mut i = from;
-    while i < words.len() {
-        if is_end(words[i]) {
-            return i;
-        }
-        i += 1;
-    }
-    i
+    next_end(words, from).unwrap_or(from.max(words.len()))
 }
 
 // The place of the store that ends the expression at `from`.
@@ -36,14 +29,14 @@ pub fn expression_end(words: &[u32], from: usize) -> usize
     ensures place { result ≡ next_end from (drop from words.now) }
     ensures cuts { CutsStored words.now from result }
 {
-    next_end(words, from)
+    end_from(words, from)
 }
 
 // The places of the fact at `from`; without a test behind it, those of an empty one.
 fn find_fact(words: &[u32], from: usize) -> FactAt
     ensures { result ≡ fact_places words.now from (next_end from (drop from words.now)) }
 {
-    let end = next_end(words, from);
+    let end = end_from(words, from);
     if end >= words.len() {
         return FactAt {
             cut: from,

@@ -2,6 +2,7 @@
 ghost use Rattle.std.specs.Prelude.{◌≡◌};
 ghost use Rattle.proposal.specs.Places.{pair_fault, claim_fault, pair_figures, claim_figures};
 
+use machine::refusal::Refusal;
 use machine::words::WordFault;
 
 // A malformed pair, with the place of the word, or a state that is reset or missing.
@@ -42,21 +43,17 @@ impl From<WordFault> for ClaimFault {
     }
 }
 
-impl PairFault {
-    // The number of the refusal.
-    pub fn number(self) -> u32
-        ensures { result ≡ (pair_figures self).number }
-    {
+impl Refusal for PairFault {
+    ghost figures = { pair_figures };
+
+    fn number(self) -> u32 {
         match self {
             PairFault::Malformed(_) => 6,
             PairFault::BadState => 8,
         }
     }
 
-    // The place that it names.
-    pub fn place(self) -> usize
-        ensures { result ≡ (pair_figures self).place }
-    {
+    fn place(self) -> usize {
         match self {
             PairFault::Malformed(place) => place,
             PairFault::BadState => 0,
@@ -64,21 +61,17 @@ impl PairFault {
     }
 }
 
-impl ClaimFault {
-    // The number of the refusal.
-    pub fn number(self) -> u32
-        ensures { result ≡ (claim_figures self).number }
-    {
+impl Refusal for ClaimFault {
+    ghost figures = { claim_figures };
+
+    fn number(self) -> u32 {
         match self {
             ClaimFault::Malformed(_) => 7,
             ClaimFault::NotFiled => 9,
         }
     }
 
-    // The place that it names.
-    pub fn place(self) -> usize
-        ensures { result ≡ (claim_figures self).place }
-    {
+    fn place(self) -> usize {
         match self {
             ClaimFault::Malformed(place) => place,
             ClaimFault::NotFiled => 0,

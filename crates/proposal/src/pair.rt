@@ -6,9 +6,10 @@ ghost use Rattle.proposal.specs.Places.{pair_told, told_as, head_of, head_told, 
 use crate::facts::facts_end;
 use crate::fault::PairFault;
 use crate::stored::masked_end;
-use expression::words::{kind_of, number_of};
+use expression::kind::Kind;
+use expression::words::number_of;
 use machine::head::Head;
-use machine::words::{Limits, WordFault};
+use machine::words::{Limits, Reader, WordFault};
 
 // The counts of a pair: a state of either machine, symbols and facts.
 #[derive(Clone, Copy)]
@@ -18,10 +19,6 @@ pub struct PairHead {
     pub symbols: u32,
     pub facts: u32,
 }
-
-const PAIR: u32 = 10;
-
-const MASK: u32 = 14;
 
 const MOST_SYMBOLS: u32 = 32;
 
@@ -57,7 +54,7 @@ fn head_of(one: &Head, two: &Head, word: u32) -> Result<PairHead, PairFault>
     ensures { pair_told result ≡ head_told one.now.states two.now.states word }
 {
     let head = PairHead::of(number_of(word));
-    if kind_of(word) != PAIR || head.symbols > MOST_SYMBOLS || head.facts > MOST_FACTS {
+    if !Kind::Pair.is_of(word) || head.symbols > MOST_SYMBOLS || head.facts > MOST_FACTS {
         return Err(PairFault::Malformed(0));
     }
     if !is_state(one.states, head.first) || !is_state(two.states, head.second) {
@@ -90,7 +87,7 @@ fn mask_at(words: &[u32], place: usize, registers: u32, symbols: u32) -> Result<
         return Err(PairFault::Malformed(place));
     }
     let mask = number_of(words[place]);
-    if kind_of(words[place]) != MASK || !mask_fits(mask, registers, symbols) {
+    if !Kind::Mask.is_of(words[place]) || !mask_fits(mask, registers, symbols) {
         return Err(PairFault::Malformed(place));
     }
     Ok(mask)
@@ -98,17 +95,16 @@ fn mask_at(words: &[u32], place: usize, registers: u32, symbols: u32) -> Result<
 
 // The place behind the expressions of both masks and the facts.
 fn expressions_end(
-    words: &[u32],
-    limits: &Limits,
+    reader: &Reader<'_>,
     first: u32,
     second: u32,
     facts: u32,
 ) -> Result<usize, WordFault>
-    ensures { (m n : ℕ) → first < 2 ^ m → second < 2 ^ n → told_as 6 result ≡ body_places limits.now words.now (due (bits m first) 0) (due (bits n second) 0) facts }
+    ensures { (m n : ℕ) → first < 2 ^ m → second < 2 ^ n → told_as 6 result ≡ body_places reader.now.limits reader.now.words.now (due (bits m first) 0) (due (bits n second) 0) facts }
 {
-    let behind_first = masked_end(words, limits, first, 3)?;
-    let behind_second = masked_end(words, limits, second, behind_first)?;
-    facts_end(words, limits, facts, behind_second)
+    let behind_first = masked_end(reader, first, 3)?;
+    let behind_second = masked_end(reader, second, behind_first)?;
+    facts_end(reader, facts, behind_second)
 }
 
 // The masks, expressions and facts of a pair with this head, and nothing behind them.
@@ -126,7 +122,8 @@ fn read_body(one: &Head, two: &Head, words: &[u32], head: PairHead) -> Result<Pa
         ports: 0,
         states: 0,
     };
-    let end = expressions_end(words, &limits, first, second, head.facts)?;
+    let reader = Reader { words, limits };
+    let end = expressions_end(&reader, first, second, head.facts)?;
     if end != words.len() {
         return Err(PairFault::Malformed(end));
     }
@@ -137,9 +134,9 @@ fn read_body(one: &Head, two: &Head, words: &[u32], head: PairHead) -> Result<Pa
 pub fn read_pair(one: &Head, two: &Head, words: &[u32]) -> Result<PairHead, PairFault>
     ensures { pair_told result ≡ the_counts (read_pair one.now two.now words.now) }
 {
-    if words.is_empty() {
+    let Some(first) = words.first() else {
         return Err(PairFault::Malformed(0));
-    }
-    let head = head_of(one, two, words[0])?;
+    };
+    let head = head_of(one, two, *first)?;
     read_body(one, two, words, head)
 }

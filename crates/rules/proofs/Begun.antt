@@ -5,14 +5,14 @@ use Rattle.expression.specs.declared.item.Item.{Item}
 use Rattle.forms.specs.Forms.{Form, symbol_form}
 use Rattle.machine.specs.Answer.{Answer, good, refused, ◌then◌}
 use Rattle.proposal.specs.Proposal.{Fact, Pair}
-use Rattle.walk.specs.declared.known.KnownTests.{KnownTests}
+use Rattle.walk.specs.Lists.{KnownTests}
 use Rattle.walk.specs.Settled.{Known}
 use Rattle.walk.specs.Walk.{fits}
 use Rattle.walk.specs.Seen.{kept_seen, known_seen, KeptBeforeKnown}
 use Rattle.walk.proofs.Waiting.{kept_frame}
 use Rattle.rules.specs.declared.counts.Counts.{Counts}
 use Rattle.correspondence.specs.Judgement.{formed, fact_forms, Started, started}
-use Rattle.rules.specs.Seen.{KeptButGroup, told_known}
+use Rattle.rules.specs.Seen.{KeptButSlots, told_known}
 use Rattle.rules.specs.Kept.{Fit}
 use Rattle.rules.specs.Told.{told_started}
 
@@ -46,11 +46,11 @@ module _ {D : Type 0} (o : Ops D) (pair : Pair) where
       unfolding begun
       all_begun (Err e) c f₃ facts kept = with_facts None facts
       all_begun (Ok known) c f₃ facts kept =
-          ap₂ (λ x y. good (record { registers₁ = x; registers₂ = y; known = known_seen known.noted f₃ 0 known.count })) kept.0 kept.1
-          ∙ with_facts (Some (known_seen known.noted f₃ 0 known.count)) facts
+          ap₂ (λ x y. good (record { registers₁ = x; registers₂ = y; known = known_seen known.items f₃ 0 known.count })) kept.0 kept.1
+          ∙ with_facts (Some (known_seen known.items f₃ 0 known.count)) facts
 
 -- the registers stay in their slots
-module _ {D : Type 0} (c : Counts) (fit : Fit c) (f₁ f₂ f₃ : List (Form D)) (kept₂ : KeptButGroup (record { first = 16; count = c.two.registers }) f₁ f₂) where
+module _ {D : Type 0} (c : Counts) (fit : Fit c) (f₁ f₂ f₃ : List (Form D)) (kept₂ : KeptButSlots 16 c.two.registers f₁ f₂) where
   pub still_there : {E : Type 0} (r : Result KnownTests E) (P : KnownTests → Type 0) → IfOk r (λ known. P known × KeptBeforeKnown f₂ f₃) → IfOk r (λ _. (kept_seen f₃ 0 c.one.registers ≡ kept_seen f₁ 0 c.one.registers) × (kept_seen f₃ 16 c.two.registers ≡ kept_seen f₂ 16 c.two.registers))
   still_there (Err e) P kept = tt
   still_there (Ok known) P kept = (

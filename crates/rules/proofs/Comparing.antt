@@ -4,9 +4,8 @@ use Rattle.domain.specs.Ring.{Ops}
 use Rattle.expression.specs.declared.item.Item.{Item}
 use Rattle.forms.specs.Forms.{Form, same_form}
 use Rattle.machine.specs.Answer.{Answer, good, refused, ◌then◌, check}
-use Rattle.workspace.specs.declared.leaves.Group.{Group}
+use Rattle.workspace.specs.declared.group.Group.{Group}
 use Rattle.workspace.specs.declared.leaves.Symbols.TheVariants.{Kept}
-use Rattle.workspace.specs.Evaluation.{Below}
 use Rattle.walk.specs.Walk.{nth, fits}
 use Rattle.walk.specs.Seen.{kept_seen, KeptBut}
 use Rattle.walk.proofs.WorkedOut.{nth_kept}
@@ -33,7 +32,7 @@ pub record Comparing {D : Type 0} (o : Ops D) (symbols : Group) (ws : List ℕ) 
   pub readable : ReadableRegisters ws (reached.count - i) rs
   pub kept : KeptBut 152 base fs
 
-module _ {D : Type 0} (o : Ops D) (symbols : Group) (below : Below symbols) (ws : List ℕ) (from : Registers) (reached : Group) (there : Below reached) (which : ℕ) (base : List (Form D)) where
+module _ {D : Type 0} (o : Ops D) (symbols : Group) (ws : List ℕ) (from : Registers) (reached : Group) (which : ℕ) (base : List (Form D)) where
   c₀ : ℕ → Option (Form D)
   c₀ = nth (kept_seen base symbols.first symbols.count)
 
@@ -60,7 +59,7 @@ module _ {D : Type 0} (o : Ops D) (symbols : Group) (below : Below symbols) (ws 
     at_register : (fits (form_in_proposal o (symbols_seen o (Kept symbols) fs) (register_at ws rs)) then λ f. check (is_form o f (nth reached₀ i)) 17 which i then λ _. rest) ≡ whole
     unfolding c₀ reached₀ whole rest
     at_register =
-        ap₂ (λ s k. fits (form_in_proposal o s (register_at ws rs)) then λ f. check (is_form o f (nth reached₀ i)) 17 which i then λ _. same_registers o which c₀ k (registers_at ws (reached.count - (i + 1)) (next_register ws rs)) reached₀) (symbols_frame o (Kept symbols) base fs below (λ j h. inv.kept j (omega arith) (omega arith))) (add-one i)
+        ap₂ (λ s k. fits (form_in_proposal o s (register_at ws rs)) then λ f. check (is_form o f (nth reached₀ i)) 17 which i then λ _. same_registers o which c₀ k (registers_at ws (reached.count - (i + 1)) (next_register ws rs)) reached₀) (symbols_frame o (Kept symbols) base fs (λ j h. inv.kept j (omega arith) (omega arith))) (add-one i)
         ∙ sym (same_more o which c₀ i (register_at ws rs) (registers_at ws (reached.count - (i + 1)) (next_register ws rs)) reached₀)
         ∙ ap (λ n. same_registers o which c₀ i (registers_at ws n rs) reached₀) (sym (one_less i reached.count lt))
         ∙ inv.same

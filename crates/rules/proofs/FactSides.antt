@@ -5,7 +5,6 @@ use Rattle.expression.specs.Run.{and_then}
 use Rattle.forms.specs.Forms.{Form}
 use Rattle.workspace.specs.declared.leaves.Symbols.{Symbols}
 use Rattle.workspace.specs.declared.leaves.Symbols.TheVariants.{Own, Kept}
-use Rattle.workspace.specs.Evaluation.{BelowSymbols}
 use Rattle.walk.specs.Walk.{nth}
 use Rattle.walk.specs.Seen.{at_hand, KeptBut, KeptNamed}
 use Rattle.walk.specs.Taking.{KeptBelowTest}
@@ -16,13 +15,13 @@ use Rattle.correspondence.specs.Judgement.{form_in_proposal, fact_form}
 use Rattle.rules.specs.Seen.{symbols_seen, noted_fact}
 
 -- what symbols stand for stays in its slots
-pub symbols_frame : {D : Type 0} (o : Ops D) (s : Symbols) (fs fs' : List (Form D)) → BelowSymbols s → KeptNamed fs fs' → symbols_seen o s fs' ≡ symbols_seen o s fs
-symbols_frame o Own fs fs' b kept = refl
-symbols_frame o (Kept g) fs fs' b kept = ap nth (kept_frame fs fs' g.first g.count (λ j from to. kept j (omega arith)))
+pub symbols_frame : {D : Type 0} (o : Ops D) (s : Symbols) (fs fs' : List (Form D)) → KeptNamed fs fs' → symbols_seen o s fs' ≡ symbols_seen o s fs
+symbols_frame o Own fs fs' kept = refl
+symbols_frame o (Kept g) fs fs' kept = ap nth (kept_frame fs fs' g.first g.count (λ j from to. kept j (omega (arith, g.below))))
 
-module _ {D : Type 0} (o : Ops D) (s : Symbols) (below : BelowSymbols s) (ws : List ℕ) (p : ℕ) (f cut : FactAt) (is : f ≡ cut) (fs f₁ : List (Form D)) (kept₁ : KeptBut 152 fs f₁) (left : Some (get_or f₁ 152 []) ≡ form_in_proposal o (symbols_seen o s fs) (fact_of ws p f).left) where
+module _ {D : Type 0} (o : Ops D) (s : Symbols) (ws : List ℕ) (p : ℕ) (f cut : FactAt) (is : f ≡ cut) (fs f₁ : List (Form D)) (kept₁ : KeptBut 152 fs f₁) (left : Some (get_or f₁ 152 []) ≡ form_in_proposal o (symbols_seen o s fs) (fact_of ws p f).left) where
   same : symbols_seen o s f₁ ≡ symbols_seen o s fs
-  same = symbols_frame o s fs f₁ below (λ i h. kept₁ i (omega arith) (omega arith))
+  same = symbols_frame o s fs f₁ (λ i h. kept₁ i (omega arith) (omega arith))
 
   with_left : {X : Type 0} (k : Form D → Option X) → k (get_or f₁ 152 []) ≡ and_then (form_in_proposal o (symbols_seen o s fs) (fact_of ws p f).left) k
   with_left k = ap (λ m. and_then m k) left

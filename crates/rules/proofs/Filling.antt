@@ -3,8 +3,7 @@ use Rattle.std.proofs.Common.{◌≡◌, ℕ, zero, suc, ◌+◌, ◌-◌, ◌<�
 use Rattle.domain.specs.Ring.{Ops}
 use Rattle.expression.specs.Run.{and_then}
 use Rattle.forms.specs.Forms.{Form, symbol_form}
-use Rattle.workspace.specs.declared.leaves.Group.{Group}
-use Rattle.workspace.specs.Evaluation.{Below}
+use Rattle.workspace.specs.declared.group.Group.{Group}
 use Rattle.walk.specs.Seen.{kept_seen, KeptBut}
 use Rattle.walk.proofs.Waiting.{kept_frame}
 use Rattle.rules.specs.declared.registers.Registers.{Registers}
@@ -45,7 +44,7 @@ pub record Filling {D : Type 0} (o : Ops D) (ws : List ℕ) (from : Registers) (
   pub readable : ReadableRegisters ws (g.count - i) rs
   pub kept : KeptButGroup g base fs
 
-module _ {D : Type 0} (o : Ops D) (ws : List ℕ) (from : Registers) (g : Group) (below : Below g) (base : List (Form D)) where
+module _ {D : Type 0} (o : Ops D) (ws : List ℕ) (from : Registers) (g : Group) (base : List (Form D)) where
   pub fill_start : ReadableRegisters ws g.count from → Filling o ws from g base 0 from base
   fill_start readable =
       let z : g.count ≡ g.count - 0 = omega arith in

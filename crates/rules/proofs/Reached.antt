@@ -7,7 +7,7 @@ use Rattle.machine.specs.declared.words.Limits.{Limits}
 use Rattle.machine.specs.Answer.{Answer, good, refused, ◌then◌}
 use Rattle.proposal.specs.Proposal.{Pair, Fact}
 use Rattle.proposal.specs.Reading.{read, all_stored, count_from}
-use Rattle.walk.specs.declared.known.KnownTests.{KnownTests}
+use Rattle.walk.specs.Lists.{KnownTests}
 use Rattle.walk.specs.Settled.{Known}
 use Rattle.walk.specs.Walk.{Track, nth, fits}
 use Rattle.walk.specs.Seen.{kept_seen, known_seen, KeptBut}
@@ -17,7 +17,7 @@ use Rattle.rules.specs.declared.fault.EndFault.{EndFault}
 use Rattle.rules.specs.declared.fault.EndFault.TheVariants.{OverLimits}
 use Rattle.rules.specs.declared.registers.Registers.{Registers}
 use Rattle.correspondence.specs.Judgement.{formed, same_registers, facts_settled, end_holds}
-use Rattle.rules.specs.Seen.{KeptButGroup}
+use Rattle.rules.specs.Seen.{KeptButSlots}
 use Rattle.rules.specs.Kept.{Fit, kept_pair, first_registers, second_registers, fact_count, symbol_count, substitution_registers}
 use Rattle.rules.specs.Expressions.{registers_at, behind_registers, ReadableRegisters, facts_at, ReadableFacts}
 use Rattle.rules.specs.Told.{end_figures, told_end, Substituted, JudgesEnd}
@@ -63,13 +63,13 @@ module _ {D : Type 0} (o : Ops D) (c : Counts) (fit : Fit c) (ws claim : List �
 
   -- what the rules say, by what stands in the slots at the start
   judged : Option (List (Form D)) → Answer (Unit {0})
-  judged m = ended o m (kept_pair c ws).registers₁ (kept_pair c ws).registers₂ (kept_pair c ws).facts (kept_seen f₀ 0 c.one.registers) (kept_seen f₀ 16 c.two.registers) (known_seen known.noted f₀ 0 known.count)
+  judged m = ended o m (kept_pair c ws).registers₁ (kept_pair c ws).registers₂ (kept_pair c ws).facts (kept_seen f₀ 0 c.one.registers) (kept_seen f₀ 16 c.two.registers) (known_seen known.items f₀ 0 known.count)
 
   judges : (r : Result (Unit {0}) EndFault) (m : Option (List (Form D))) → m ≡ formed o (symbol_form o) (registers_at claim n rs₀) → told_end r ≡ judged m → JudgesEnd o c ws claim known f₀ r
   unfolding judged
   judges r m value e l es t u given a b d =
       e ∙ ap judged (value ∙ ap (formed o (symbol_form o)) (read_as l es given))
-      ∙ ap (λ x. ended o (formed o (symbol_form o) es) (kept_pair c ws).registers₁ (kept_pair c ws).registers₂ (kept_pair c ws).facts x (kept_seen f₀ 16 c.two.registers) (known_seen known.noted f₀ 0 known.count)) (sym a)
+      ∙ ap (λ x. ended o (formed o (symbol_form o) es) (kept_pair c ws).registers₁ (kept_pair c ws).registers₂ (kept_pair c ws).facts x (kept_seen f₀ 16 c.two.registers) (known_seen known.items f₀ 0 known.count)) (sym a)
       ∙ ap₂ (ended o (formed o (symbol_form o) es) (kept_pair c ws).registers₁ (kept_pair c ws).registers₂ (kept_pair c ws).facts t.registers) (sym d) (sym b)
       ∙ sym (ended_is o (kept_pair c ws) es t u)
 
@@ -77,12 +77,12 @@ module _ {D : Type 0} (o : Ops D) (c : Counts) (fit : Fit c) (ws claim : List �
   unfolding judged ended
   substitution_over over = judges (Err OverLimits) None over refl
 
-  module _ (f₁ : List (Form D)) (value : Some (kept_seen f₁ 32 n) ≡ formed o (symbol_form o) (registers_at claim n rs₀)) (kept₁ : KeptButGroup (record { first = 32; count = n }) f₀ f₁) (rs₁ : Registers) (is₁ : rs₁ ≡ first_registers ws) where
+  module _ (f₁ : List (Form D)) (value : Some (kept_seen f₁ 32 n) ≡ formed o (symbol_form o) (registers_at claim n rs₀)) (kept₁ : KeptButSlots 32 n f₀ f₁) (rs₁ : Registers) (is₁ : rs₁ ≡ first_registers ws) where
     cs : ℕ → Option (Form D)
     cs = nth (kept_seen f₁ 32 n)
 
     facts : Answer (Unit {0})
-    facts = facts_settled o (known_seen known.noted f₀ 0 known.count) cs 0 (kept_pair c ws).facts
+    facts = facts_settled o (known_seen known.items f₀ 0 known.count) cs 0 (kept_pair c ws).facts
 
     second : Answer (Unit {0})
     second = same_registers o 2 cs 0 (kept_pair c ws).registers₂ (kept_seen f₀ 16 c.two.registers)
@@ -127,10 +127,10 @@ module _ {D : Type 0} (o : Ops D) (c : Counts) (fit : Fit c) (ws claim : List �
         pub readable_facts : ReadableFacts ws k q
         readable_facts = found.1
 
-        pub facts_judged : (r : Result (Unit {0}) EndFault) → told_end r ≡ facts_settled o (known_seen known.noted f₃ 0 known.count) (nth (kept_seen f₃ 32 n)) 0 (facts_at ws k q) → JudgesEnd o c ws claim known f₀ r
+        pub facts_judged : (r : Result (Unit {0}) EndFault) → told_end r ≡ facts_settled o (known_seen known.items f₃ 0 known.count) (nth (kept_seen f₃ 32 n)) 0 (facts_at ws k q) → JudgesEnd o c ws claim known f₀ r
         unfolding facts cs
         facts_judged r e =
             by_parts r (e
             ∙ ap₂ (λ x y. facts_settled o x (nth y) 0 (facts_at ws k q)) (still_known known f₀ f₃ (λ j a b. kept₃ j (omega arith) (omega arith) ∙ kept₂ j (omega arith) (omega arith) ∙ kept₁ j (omega arith) (inr (omega (arith, most))))) (kept_frame f₁ f₃ 32 n (λ j a b. kept₃ j (omega (arith, most)) (omega (arith, most)) ∙ kept₂ j (omega (arith, most)) (omega (arith, most))))
-            ∙ ap (facts_settled o (known_seen known.noted f₀ 0 known.count) cs 0) found.0
+            ∙ ap (facts_settled o (known_seen known.items f₀ 0 known.count) cs 0) found.0
             ∙ over_second.0 ∙ over_first.0)

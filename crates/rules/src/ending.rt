@@ -1,23 +1,21 @@
 // The end pair of a claim: with the substitution, its registers are those reached, and its facts are settled.
-ghost use Rattle.std.specs.Prelude.{◌≡◌, true, OnOk};
+ghost use Rattle.std.specs.Prelude.{◌≡◌, OnOk};
 ghost use Rattle.workspace.specs.Views.{forms};
 ghost use Rattle.workspace.specs.Layout.{left_at};
-ghost use Rattle.workspace.specs.Evaluation.{Below};
 ghost use Rattle.walk.specs.Walk.{nth};
 ghost use Rattle.walk.specs.Seen.{kept_seen, known_seen, KeptBut};
+ghost use Rattle.machine.specs.Which.{which_number};
 ghost use Rattle.correspondence.specs.Judgement.{same_registers, facts_settled};
 ghost use Rattle.rules.specs.Expressions.{registers_at, behind_registers, ReadableRegisters, facts_at, ReadableFacts};
-ghost use Rattle.rules.specs.Kept.{Fit, kept_pair, is_kept};
+ghost use Rattle.rules.specs.Kept.{kept_pair};
 ghost use Rattle.rules.specs.Told.{told_end, found_by, Substituted, JudgesEnd};
 
-use crate::counts::Counts;
 use crate::facts::work_out_fact;
 use crate::fault::EndFault;
-use crate::pairs::{
-    fact_count, first_registers, second_registers, substitution_registers, symbol_count,
-};
+use crate::pairs::{KeptPair, substitution_registers};
 use crate::registers::{Registers, work_out_register, work_out_registers};
 use domain::Domain;
+use machine::which::Which;
 use walk::known::{KnownTests, Noted};
 use walk::settling::is_settled;
 use workspace::layout::{FIRST_REGISTERS, LEFT, SECOND_REGISTERS, SUBSTITUTION};
@@ -30,12 +28,10 @@ fn check_registers<D: Domain>(
     words: &[u32],
     from: Registers,
     reached: Group,
-    machine: u32,
+    machine: Which,
 ) -> Result<usize, EndFault>
     requires readable { ReadableRegisters words.now reached.count from }
-    requires symbols { Below symbols }
-    requires reached { Below reached }
-    ensures same { told_end result ≡ found_by (same_registers D.ops machine (nth (kept_seen (forms slots.old) symbols.first symbols.count)) 0 (registers_at words.now reached.count from) (kept_seen (forms slots.old) reached.first reached.count)) (behind_registers words.now reached.count from) }
+    ensures same { told_end result ≡ found_by (same_registers D.ops (which_number machine) (nth (kept_seen (forms slots.old) symbols.first symbols.count)) 0 (registers_at words.now reached.count from) (kept_seen (forms slots.old) reached.first reached.count)) (behind_registers words.now reached.count from) }
     ensures kept { OnOk result (KeptBut left_at (forms slots.old) (forms slots.new)) }
 {
     let mut registers = from;
@@ -58,8 +54,7 @@ fn check_facts<D: Domain>(
     known: &KnownTests,
 ) -> Result<(), EndFault>
     requires readable { ReadableFacts words.now facts place }
-    requires symbols { Below symbols }
-    ensures settles { told_end result ≡ facts_settled D.ops (known_seen known.now.noted (forms slots.old) 0 known.now.count) (nth (kept_seen (forms slots.old) symbols.first symbols.count)) 0 (facts_at words.now facts place) }
+    ensures settles { told_end result ≡ facts_settled D.ops (known_seen known.now.items (forms slots.old) 0 known.now.count) (nth (kept_seen (forms slots.old) symbols.first symbols.count)) 0 (facts_at words.now facts place) }
 {
     let mut at = place;
     for i in 0..facts as usize {
@@ -79,31 +74,30 @@ fn check_facts<D: Domain>(
 // With the substitution of a claim, the end pair has the registers reached, and its facts are settled by what is known. Pair 0 has no words.
 pub fn check_end<D: Domain>(
     slots: &mut Slots<'_, D>,
-    counts: Counts,
-    pair: &[u32],
+    pair: &KeptPair<'_>,
     claim: &[u32],
     known: &KnownTests,
 ) -> Result<(), EndFault>
-    requires fit { Fit counts }
-    requires kept { is_kept counts pair.now ≡ true }
-    requires substituted { Substituted (kept_pair counts pair.now).symbols claim.now }
-    ensures { JudgesEnd D.ops counts pair.now claim.now known.now (forms slots.old) result }
+    requires substituted { Substituted (kept_pair pair.now.counts pair.now.words.now).symbols claim.now }
+    ensures { JudgesEnd D.ops pair.now.counts pair.now.words.now claim.now known.now (forms slots.old) result }
 {
     let symbols = Group {
         first: SUBSTITUTION,
-        count: symbol_count(counts, pair),
+        count: pair.symbols(),
     };
     let first = Group {
         first: FIRST_REGISTERS,
-        count: counts.one.registers,
+        count: pair.counts.one.registers,
     };
     let second = Group {
         first: SECOND_REGISTERS,
-        count: counts.two.registers,
+        count: pair.counts.two.registers,
     };
     work_out_registers(slots, claim, substitution_registers(), symbols)?;
-    let behind_first = check_registers(slots, symbols, pair, first_registers(pair), first, 1)?;
-    let from = second_registers(counts, pair, behind_first);
-    let behind_second = check_registers(slots, symbols, pair, from, second, 2)?;
-    check_facts(slots, symbols, pair, fact_count(pair), behind_second, known)
+    let words = pair.words;
+    let from = pair.first_registers();
+    let behind_first = check_registers(slots, symbols, words, from, first, Which::First)?;
+    let from = pair.second_registers(behind_first);
+    let behind_second = check_registers(slots, symbols, words, from, second, Which::Second)?;
+    check_facts(slots, symbols, words, pair.facts(), behind_second, known)
 }

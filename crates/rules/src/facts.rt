@@ -3,7 +3,6 @@ ghost use Rattle.std.specs.Prelude.{◌≡◌, ◌≤◌, IfOk};
 ghost use Rattle.forms.specs.Forms.{symbol_form};
 ghost use Rattle.workspace.specs.Slots.{told};
 ghost use Rattle.workspace.specs.Views.{forms};
-ghost use Rattle.workspace.specs.Evaluation.{BelowSymbols};
 ghost use Rattle.walk.specs.Seen.{at_hand, KeptBeforeKnown};
 ghost use Rattle.walk.specs.Taking.{KeptBelowTest};
 ghost use Rattle.proposal.specs.Cursors.{fact_of};
@@ -13,9 +12,9 @@ ghost use Rattle.rules.specs.Expressions.{fact_cut, facts_at, ReadableFact, Read
 
 use crate::working::work_out;
 use domain::Domain;
-use expression::test::Test;
+use expression::shape::Expression;
 use proposal::cursor::{FactAt, fact_at};
-use walk::known::{KnownTests, Noted};
+use walk::known::{KnownTests, Noted, none_known};
 use walk::learning::learn;
 use workspace::layout::{LEFT, RIGHT};
 use workspace::{OverLimits, Slots, Symbols};
@@ -28,29 +27,19 @@ pub fn work_out_fact<D: Domain>(
     place: usize,
 ) -> Result<FactAt, OverLimits>
     requires readable { ReadableFact words.now place }
-    requires symbols { BelowSymbols symbols }
     ensures value { told result (at_hand (forms slots.new) (noted_fact (fact_cut words.now place))) ≡ fact_form D.ops (symbols_seen D.ops symbols (forms slots.old)) (fact_of words.now place (fact_cut words.now place)) }
     ensures kept { IfOk result (λ fact. (fact ≡ fact_cut words.now place) × KeptBelowTest (forms slots.old) (forms slots.new)) }
 {
     let fact = fact_at(words, place);
-    let cut = fact.cut;
-    let end = fact.end;
-    work_out(slots, symbols, &words[place..cut], LEFT)?;
-    work_out(slots, symbols, &words[cut..end], RIGHT)?;
+    let left = Expression {
+        words: &words[place..fact.cut],
+    };
+    let right = Expression {
+        words: &words[fact.cut..fact.end],
+    };
+    work_out(slots, symbols, left, LEFT)?;
+    work_out(slots, symbols, right, RIGHT)?;
     Ok(fact)
-}
-
-// No test is known yet.
-fn none_known() -> KnownTests
-    ensures { result.count ≡ 0 }
-{
-    KnownTests {
-        noted: [Noted {
-            test: Test::Same,
-            says: false,
-        }; 24],
-        count: 0,
-    }
 }
 
 // The facts from a place on become known, symbols standing for themselves.

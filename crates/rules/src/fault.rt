@@ -2,13 +2,14 @@
 ghost use Rattle.std.specs.Prelude.{◌≡◌};
 ghost use Rattle.rules.specs.declared.fault.EndFault.TheVariants as EndFault;
 
+use machine::which::Which;
 use workspace::OverLimits;
 
 // A value over the limits, a register that differs, or a fact that is not settled, by its place among the facts.
 #[derive(Clone, Copy)]
 pub enum EndFault {
     OverLimits,
-    Register { machine: u32, register: u32 },
+    Register { machine: Which, register: u32 },
     Fact(usize),
 }
 

@@ -5,7 +5,6 @@ ghost use Rattle.forms.specs.Forms.{symbol_form};
 ghost use Rattle.workspace.specs.Layout.{stack_at};
 ghost use Rattle.workspace.specs.Slots.{told};
 ghost use Rattle.workspace.specs.Views.{forms};
-ghost use Rattle.workspace.specs.Evaluation.{Below, BelowSymbols};
 ghost use Rattle.walk.specs.Seen.{kept_seen, KeptBut};
 ghost use Rattle.correspondence.specs.Judgement.{form_in_proposal, formed};
 ghost use Rattle.rules.specs.Seen.{symbols_seen, KeptButGroup};
@@ -13,6 +12,8 @@ ghost use Rattle.rules.specs.Expressions.{end_at, expression_at, ReadableAt, own
 
 use crate::working::work_out;
 use domain::Domain;
+use expression::kind::Kind;
+use expression::shape::Expression;
 use proposal::cursor::expression_end;
 use workspace::{Group, OverLimits, Slots, Symbols};
 
@@ -26,8 +27,6 @@ pub struct Registers {
     pub shared: u32,
     pub offset: u32,
 }
-
-const SYMBOL: u32 = 4 << 28;
 
 impl Registers {
     // The symbol that the register at hand is if it has no expression.
@@ -52,12 +51,12 @@ fn work_out_symbol<D: Domain>(
     to: usize,
 ) -> Result<(), OverLimits>
     requires small { symbol < 0x10000000 }
-    requires symbols { BelowSymbols symbols }
     requires slot { to < stack_at }
     ensures value { told result (slice_index_or (forms slots.new) to []) ≡ form_in_proposal D.ops (symbols_seen D.ops symbols (forms slots.old)) (Symbol symbol ∷ []) }
     ensures kept { OnOk result (KeptBut to (forms slots.old) (forms slots.new)) }
 {
-    work_out(slots, symbols, &[SYMBOL + symbol], to)
+    let word = [Kind::Symbol.word(symbol)];
+    work_out(slots, symbols, Expression { words: &word }, to)
 }
 
 // Slot `to` gets the form of the expression at a place. The place behind the word that ends it.
@@ -69,13 +68,15 @@ fn work_out_at<D: Domain>(
     to: usize,
 ) -> Result<usize, OverLimits>
     requires readable { ReadableAt words.now place }
-    requires symbols { BelowSymbols symbols }
     requires slot { to < stack_at }
     ensures value { told result (slice_index_or (forms slots.new) to []) ≡ form_in_proposal D.ops (symbols_seen D.ops symbols (forms slots.old)) (expression_at words.now place) }
     ensures kept { IfOk result (λ behind. (behind ≡ end_at words.now place + 1) × KeptBut to (forms slots.old) (forms slots.new)) }
 {
     let end = expression_end(words, place);
-    work_out(slots, symbols, &words[place..end], to)?;
+    let expression = Expression {
+        words: &words[place..end],
+    };
+    work_out(slots, symbols, expression, to)?;
     Ok(end + 1)
 }
 
@@ -88,7 +89,6 @@ pub fn work_out_register<D: Domain>(
     to: usize,
 ) -> Result<Registers, OverLimits>
     requires readable { ReadableRegister words.now registers }
-    requires symbols { BelowSymbols symbols }
     requires slot { to < stack_at }
     ensures value { told result (slice_index_or (forms slots.new) to []) ≡ form_in_proposal D.ops (symbols_seen D.ops symbols (forms slots.old)) (register_at words.now registers) }
     ensures kept { IfOk result (λ next. (next ≡ next_register words.now registers) × KeptBut to (forms slots.old) (forms slots.new)) }
@@ -104,8 +104,7 @@ pub fn work_out_register<D: Domain>(
         register: registers.register + 1,
         mask: registers.mask / 2,
         place,
-        shared: registers.shared,
-        offset: registers.offset,
+        ..registers
     })
 }
 
@@ -118,7 +117,6 @@ pub fn work_out_registers<D: Domain>(
     group: Group,
 ) -> Result<usize, OverLimits>
     requires readable { ReadableRegisters words.now group.count from }
-    requires group { Below group }
     ensures values { told result (kept_seen (forms slots.new) group.first group.count) ≡ formed D.ops (symbol_form D.ops) (registers_at words.now group.count from) }
     ensures kept { IfOk result (λ behind. (behind ≡ behind_registers words.now group.count from) × KeptButGroup group (forms slots.old) (forms slots.new)) }
 {

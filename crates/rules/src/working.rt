@@ -1,16 +1,15 @@
 // Expressions of a proposal, worked out over forms of their symbols.
-ghost use Rattle.std.specs.Prelude.{◌≡◌, ◌<◌, true, [], map, OnOk, slice_index_or};
-ghost use Rattle.expression.specs.Words.{item_of};
-ghost use Rattle.expression.specs.Shape.{is_expression};
+ghost use Rattle.std.specs.Prelude.{◌≡◌, ◌<◌, [], OnOk, slice_index_or};
+ghost use Rattle.expression.specs.Expressions.{items};
 ghost use Rattle.workspace.specs.Layout.{stack_at};
 ghost use Rattle.workspace.specs.Slots.{told};
 ghost use Rattle.workspace.specs.Views.{forms};
-ghost use Rattle.workspace.specs.Evaluation.{BelowSymbols};
 ghost use Rattle.walk.specs.Seen.{KeptBut};
 ghost use Rattle.correspondence.specs.Judgement.{form_in_proposal};
 ghost use Rattle.rules.specs.Seen.{proposal_leaves, symbols_seen};
 
 use domain::Domain;
+use expression::shape::Expression;
 use workspace::{Group, Leaves, OverLimits, Slots, Symbols, evaluate_into};
 
 // What an expression of a proposal reads: no registers, and symbols as said.
@@ -18,7 +17,7 @@ fn proposal_leaves(symbols: Symbols) -> Leaves
     ensures { result ≡ proposal_leaves symbols }
 {
     Leaves {
-        registers: Group { first: 0, count: 0 },
+        registers: Group::none(),
         symbols,
     }
 }
@@ -27,14 +26,12 @@ fn proposal_leaves(symbols: Symbols) -> Leaves
 pub fn work_out<D: Domain>(
     slots: &mut Slots<'_, D>,
     symbols: Symbols,
-    words: &[u32],
+    expression: Expression<'_>,
     to: usize,
 ) -> Result<(), OverLimits>
-    requires expression { is_expression (map item_of words.now) ≡ true }
-    requires symbols { BelowSymbols symbols }
     requires slot { to < stack_at }
-    ensures value { told result (slice_index_or (forms slots.new) to []) ≡ form_in_proposal D.ops (symbols_seen D.ops symbols (forms slots.old)) (map item_of words.now) }
+    ensures value { told result (slice_index_or (forms slots.new) to []) ≡ form_in_proposal D.ops (symbols_seen D.ops symbols (forms slots.old)) (items expression.entry) }
     ensures kept { OnOk result (KeptBut to (forms slots.old) (forms slots.new)) }
 {
-    evaluate_into(slots, proposal_leaves(symbols), words, to)
+    evaluate_into(slots, proposal_leaves(symbols), expression, to)
 }

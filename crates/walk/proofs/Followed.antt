@@ -7,14 +7,15 @@ use Rattle.machine.specs.Answer.{Answer, good, refused, ◌then◌}
 use Rattle.machine.specs.Machine.{Machine, row_at}
 use Rattle.walk.specs.declared.fault.WalkFault.{WalkFault}
 use Rattle.walk.specs.declared.fault.WalkFault.TheVariants.{OverLimits, Unsettled}
-use Rattle.walk.specs.declared.known.KnownTests.{KnownTests}
-use Rattle.walk.specs.declared.outputs.Outputs.{Outputs}
+use Rattle.walk.specs.Lists.{KnownTests}
+use Rattle.walk.specs.Lists.{Outputs}
 use Rattle.walk.specs.declared.side.Side.{Side}
 use Rattle.walk.specs.Settled.{Known}
 use Rattle.walk.specs.Walk.{Track, step, walk, learn, must}
-use Rattle.walk.specs.Seen.{known_seen, LegalSide, KeptApart}
+use Rattle.walk.specs.Seen.{known_seen, KeptApart}
 use Rattle.walk.proofs.Learned.{known_kept}
-use Rattle.walk.specs.Taking.{There, table_machine, track_seen, Reached, reached, only_reached, beside, reached_seen, told_walk, KeptOtherSide}
+use Rattle.machine.specs.Tables.{There, table_machine}
+use Rattle.walk.specs.Taking.{track_seen, Reached, reached, only_reached, beside, reached_seen, told_walk, KeptOtherSide}
 
 module _ {D : Type 0} (o : Ops D) (ask : ℕ → List (Known D) → Answer (Unit {0})) (m : Machine) where
   pub walk_done : (i : ℕ) (t : Track D) → walk o ask m i [] t ≡ good t
@@ -71,20 +72,20 @@ module _ {D : Type 0} where
   only_refused (good t) n m p h = absurd (let z : ◌≡◌ {A = ℕ} 0 1 = cc in omega arith)
 
 pub record FollowingSettled {D : Type 0} (o : Ops D) (side : Side) (words : List ℕ) (path : List Bool) (start : ℕ) (known : KnownTests) (outputs₀ : Outputs) (base : List (Form D)) (i state : ℕ) (outputs : Outputs) (fs : List (Form D)) : Type 0 where
-  pub walks : (tests : List (Known D)) → (more : List (Known D)) × (only_reached (walk o (must o (known_seen known.noted base 0 known.count)) (table_machine words) i (drop i path) (beside more (reached_seen side state outputs fs))) ≡ only_reached (walk o (must o (known_seen known.noted base 0 known.count)) (table_machine words) 0 path (beside tests (reached_seen side start outputs₀ base))))
+  pub walks : (tests : List (Known D)) → (more : List (Known D)) × (only_reached (walk o (must o (known_seen known.items base 0 known.count)) (table_machine words) i (drop i path) (beside more (reached_seen side state outputs fs))) ≡ only_reached (walk o (must o (known_seen known.items base 0 known.count)) (table_machine words) 0 path (beside tests (reached_seen side start outputs₀ base))))
   pub there : There words state
   pub kept : KeptApart side base fs
 
-module _ {D : Type 0} (o : Ops D) (side : Side) (legal : LegalSide side) (words : List ℕ) (path : List Bool) (start : ℕ) (known : KnownTests) (outputs₀ : Outputs) (base : List (Form D)) (i state : ℕ) (outputs : Outputs) (fs : List (Form D)) (inv : FollowingSettled o side words path start known outputs₀ base i state outputs fs) where
+module _ {D : Type 0} (o : Ops D) (side : Side) (words : List ℕ) (path : List Bool) (start : ℕ) (known : KnownTests) (outputs₀ : Outputs) (base : List (Form D)) (i state : ℕ) (outputs : Outputs) (fs : List (Form D)) (inv : FollowingSettled o side words path start known outputs₀ base i state outputs fs) where
   known₀ : List (Known D)
-  known₀ = known_seen known.noted base 0 known.count
+  known₀ = known_seen known.items base 0 known.count
 
   -- what is known stays in its slots
-  still_known : known_seen known.noted fs 0 known.count ≡ known₀
+  still_known : known_seen known.items fs 0 known.count ≡ known₀
   unfolding known₀
   still_known =
-      let apart : (j : ℕ) → 96 ≤ j → j < 144 → get_or fs j [] ≡ get_or base j [] = λ j a b. inv.kept j b (inr (omega (arith, legal.registers))) (inr (omega (arith, legal.before))) in
-      known_kept known.noted base fs known.count known.few apart
+      let apart : (j : ℕ) → 96 ≤ j → j < 144 → get_or fs j [] ≡ get_or base j [] = λ j a b. inv.kept j b (inr (omega (arith, side.low))) (inr (omega (arith, side.before))) in
+      known_kept known.items base fs known.count known.few apart
 
   here : List (Known D) → Track D
   here more = beside more (reached_seen side state outputs fs)
@@ -92,14 +93,14 @@ module _ {D : Type 0} (o : Ops D) (side : Side) (legal : LegalSide side) (words 
   rest : Track D → Answer (Track D)
   rest u = walk o (must o known₀) (table_machine words) (i + 1) (drop (i + 1) path) u
 
-  at_step : (more : List (Known D)) (a : Answer (Track D)) → i < length path → step o (must o (known_seen known.noted fs 0 known.count) i) (row_at (table_machine words) state) (get_or path i false) (here more) ≡ a → walk o (must o known₀) (table_machine words) i (drop i path) (here more) ≡ (a then rest)
+  at_step : (more : List (Known D)) (a : Answer (Track D)) → i < length path → step o (must o (known_seen known.items fs 0 known.count) i) (row_at (table_machine words) state) (get_or path i false) (here more) ≡ a → walk o (must o known₀) (table_machine words) i (drop i path) (here more) ≡ (a then rest)
   unfolding here rest
   at_step more a lt e =
       walk_at o (must o known₀) (table_machine words) path i (here more) lt
       ∙ ap (λ k. step o (must o k i) (row_at (table_machine words) state) (get_or path i false) (here more) then rest) (sym still_known)
       ∙ ap (λ b. b then rest) e
 
-  pub settled_on : (s : ℕ) (outputs' : Outputs) (fs' : List (Form D)) → i < length path → ((tests : List (Known D)) → good (reached_seen side s outputs' fs') ≡ only_reached (step o (must o (known_seen known.noted fs 0 known.count) i) (row_at (table_machine words) state) (get_or path i false) (beside tests (reached_seen side state outputs fs)))) → There words s → KeptApart side fs fs' → FollowingSettled o side words path start known outputs₀ base (i + 1) s outputs' fs'
+  pub settled_on : (s : ℕ) (outputs' : Outputs) (fs' : List (Form D)) → i < length path → ((tests : List (Known D)) → good (reached_seen side s outputs' fs') ≡ only_reached (step o (must o (known_seen known.items fs 0 known.count) i) (row_at (table_machine words) state) (get_or path i false) (beside tests (reached_seen side state outputs fs)))) → There words s → KeptApart side fs fs' → FollowingSettled o side words path start known outputs₀ base (i + 1) s outputs' fs'
   unfolding here rest known₀
   settled_on s outputs' fs' lt steps there kept = record {
     walks = λ tests.
@@ -110,19 +111,19 @@ module _ {D : Type 0} (o : Ops D) (side : Side) (legal : LegalSide side) (words 
     kept = λ j a b c. kept j a b c ∙ inv.kept j a b c;
   }
 
-  pub settled_not : (n m p : ℕ) → i < length path → ((tests : List (Known D)) → refused n m p ≡ only_reached (step o (must o (known_seen known.noted fs 0 known.count) i) (row_at (table_machine words) state) (get_or path i false) (beside tests (reached_seen side state outputs fs)))) → (tests : List (Known D)) → refused n m p ≡ only_reached (walk o (must o (known_seen known.noted base 0 known.count)) (table_machine words) 0 path (beside tests (reached_seen side start outputs₀ base)))
+  pub settled_not : (n m p : ℕ) → i < length path → ((tests : List (Known D)) → refused n m p ≡ only_reached (step o (must o (known_seen known.items fs 0 known.count) i) (row_at (table_machine words) state) (get_or path i false) (beside tests (reached_seen side state outputs fs)))) → (tests : List (Known D)) → refused n m p ≡ only_reached (walk o (must o (known_seen known.items base 0 known.count)) (table_machine words) 0 path (beside tests (reached_seen side start outputs₀ base)))
   unfolding here rest known₀
   settled_not n m p lt steps tests =
       let w = inv.walks tests in
       ap only_reached (sym (at_step w.0 (refused n m p) lt (only_refused _ n m p (steps w.0)))) ∙ w.1
 
-  pub settled_end : length path ≤ i → (tests : List (Known D)) → good (reached_seen side state outputs fs) ≡ only_reached (walk o (must o (known_seen known.noted base 0 known.count)) (table_machine words) 0 path (beside tests (reached_seen side start outputs₀ base)))
+  pub settled_end : length path ≤ i → (tests : List (Known D)) → good (reached_seen side state outputs fs) ≡ only_reached (walk o (must o (known_seen known.items base 0 known.count)) (table_machine words) 0 path (beside tests (reached_seen side start outputs₀ base)))
   settled_end h tests =
       let w = inv.walks tests in
-      ap only_reached (sym (walk_ended o (must o (known_seen known.noted base 0 known.count)) (table_machine words) path i (beside w.0 (reached_seen side state outputs fs)) h)) ∙ w.1
+      ap only_reached (sym (walk_ended o (must o (known_seen known.items base 0 known.count)) (table_machine words) path i (beside w.0 (reached_seen side state outputs fs)) h)) ∙ w.1
 
   -- whatever the fault
-  pub settled_fault : (y : WalkFault) (after after' : ℕ → Reached D) → i < length path → ((tests : List (Known D)) → told_walk (Err y) after ≡ only_reached (step o (must o (known_seen known.noted fs 0 known.count) i) (row_at (table_machine words) state) (get_or path i false) (beside tests (reached_seen side state outputs fs)))) → (tests : List (Known D)) → told_walk (Err y) after' ≡ only_reached (walk o (must o (known_seen known.noted base 0 known.count)) (table_machine words) 0 path (beside tests (reached_seen side start outputs₀ base)))
+  pub settled_fault : (y : WalkFault) (after after' : ℕ → Reached D) → i < length path → ((tests : List (Known D)) → told_walk (Err y) after ≡ only_reached (step o (must o (known_seen known.items fs 0 known.count) i) (row_at (table_machine words) state) (get_or path i false) (beside tests (reached_seen side state outputs fs)))) → (tests : List (Known D)) → told_walk (Err y) after' ≡ only_reached (walk o (must o (known_seen known.items base 0 known.count)) (table_machine words) 0 path (beside tests (reached_seen side start outputs₀ base)))
   settled_fault OverLimits after after' lt steps = settled_not 11 0 0 lt steps
   settled_fault (Unsettled k) after after' lt steps = settled_not 14 2 k lt steps
 

@@ -5,10 +5,8 @@ use Rattle.std.proofs.lemmas.Bool.{eq-eqb, ne_eqb, eqb-true, eqb-false, ltb-true
 use Rattle.machine.specs.Answer.{good, refused, ◌then◌, check}
 use Rattle.machine.specs.Machine.{Machine, Row, row_at, chosen}
 use Rattle.walk.specs.Walk.{allows, is_last, in_order}
-use Rattle.machine.specs.declared.head.Head.{Head}
-use Rattle.machine.specs.Reading.{table, machine, machine_of}
-use Rattle.machine.proofs.Encodes.{sound_tables}
-use Rattle.walk.specs.Taking.{IsTable, There, GoesThere, When, machine_or, table_machine, allowed_target}
+use Rattle.machine.specs.Tables.{There, GoesThere, table_machine}
+use Rattle.walk.specs.Taking.{allowed_target}
 
 module _ (m : Machine) where
   order_more : (which i s : ℕ) (turn : Bool) (path : List Bool) → in_order which m i s (turn ∷ path) ≡ (check (allows (row_at m s) turn && (is_last path || not (eqb (chosen (row_at m s) turn).target 0))) 12 which i then λ u. in_order which m (suc i) (chosen (row_at m s) turn).target path)
@@ -101,16 +99,3 @@ module _ (words : List ℕ) (path : List Bool) (start i state : ℕ) (inv : Orde
                 ∙ inv.orders which;
             there = there;
           }
-
--- an accepted table, and a state below its count
-pub state_there : (words : List ℕ) (h : Head) (s : ℕ) → good h ≡ table words → s < h.states → IsTable words × There words s
-state_there words h s e lt =
-    let m : machine words ≡ good (machine_of words h) = ap (λ a. a then λ g. good (machine_of words g)) (sym e) in
-    let is : IsTable words = m ∙ ap (λ a. good (machine_or a)) (sym m) in
-    let n : table_machine words ≡ machine_of words h = ap machine_or m in
-    let counted = sound_tables.heads words h (table_machine words) (sym e) is in
-    (is, (let c = counted.states in omega arith))
-
-pub or_not : (b : Bool) (words : List ℕ) (h : Head) (s : ℕ) → good h ≡ table words → ltb s h.states ≡ b → When b (IsTable words × There words s)
-or_not true words h s e l = state_there words h s e (ltb-true s h.states l)
-or_not false words h s e l = tt

@@ -6,16 +6,15 @@ use Rattle.expression.specs.declared.test.Test.{Test}
 use Rattle.expression.specs.Run.{and_then}
 use Rattle.forms.specs.Forms.{Form}
 use Rattle.machine.specs.Machine.{Transition, branch}
-use Rattle.workspace.specs.declared.leaves.Group.{Group}
-use Rattle.workspace.specs.Evaluation.{Below}
+use Rattle.workspace.specs.declared.group.Group.{Group}
 use Rattle.walk.specs.Walk.{form_in_table, tested}
 use Rattle.walk.specs.Seen.{kept_seen, at_hand, KeptBut}
 use Rattle.walk.specs.Taking.{KeptBelowTest}
 use Rattle.walk.proofs.Waiting.{kept_frame}
 
-module _ {D : Type 0} (o : Ops D) (g : Group) (below : Below g) (test : Test) (l r : List Item) (y n : Transition) (turn : Bool) (fs f₁ : List (Form D)) (kept₁ : KeptBut 152 fs f₁) (left : Some (get_or f₁ 152 []) ≡ form_in_table o (kept_seen fs g.first g.count) l) where
+module _ {D : Type 0} (o : Ops D) (g : Group) (test : Test) (l r : List Item) (y n : Transition) (turn : Bool) (fs f₁ : List (Form D)) (kept₁ : KeptBut 152 fs f₁) (left : Some (get_or f₁ 152 []) ≡ form_in_table o (kept_seen fs g.first g.count) l) where
   same : kept_seen f₁ g.first g.count ≡ kept_seen fs g.first g.count
-  same = kept_frame fs f₁ g.first g.count (λ j a b. kept₁ j (omega arith) (omega arith))
+  same = kept_frame fs f₁ g.first g.count (λ j a b. kept₁ j (omega (arith, g.below)) (omega (arith, g.below)))
 
   pub second_over : None ≡ form_in_table o (kept_seen f₁ g.first g.count) r → None ≡ tested o (branch test l r y n) turn (kept_seen fs g.first g.count)
   second_over right =

@@ -4,8 +4,7 @@ use lib.Seq.{set_out as set_past}
 use Rattle.std.proofs.lemmas.List.{get_or-set_same, get_or-set_other, length-append}
 use Rattle.std.proofs.lemmas.Bool.{cond-true, cond-false, lt-ltb, le-ltb}
 use Rattle.expression.specs.Run.{and_then}
-use Rattle.workspace.specs.declared.leaves.Group.{Group}
-use Rattle.workspace.specs.Evaluation.{Below}
+use Rattle.workspace.specs.declared.group.Group.{Group}
 use Rattle.walk.specs.Seen.{kept_seen, stored_seen, outputs_seen, KeptBut, KeptNamed, KeptOutside}
 
 module _ {X : Type 0} where
@@ -75,7 +74,7 @@ module _ {X : Type 0} where
     pub stored : kept_seen fs g.first g.count ≡ stored_seen ts base j (kept_seen base g.first g.count)
     pub kept : KeptOutside g base fs
 
-  module _ (ts : List ℕ) (g : Group) (below : Below g) (base : List (List X)) where
+  module _ (ts : List ℕ) (g : Group) (base : List (List X)) where
     pub none_yet : Committing ts g base base 0
     none_yet = record { stored = refl; kept = λ i h. refl }
 
@@ -84,15 +83,15 @@ module _ {X : Type 0} where
     one_more fs fs' j e kept inv =
         let more : suc j ≡ j + 1 = omega arith in
         record {
-          stored = e ∙ ap₂ (λ s v. set s (get_or ts j 0) v) inv.stored (inv.kept (144 + j) (inr (omega arith))) ∙ ap (λ k. stored_seen ts base k (kept_seen base g.first g.count)) more;
+          stored = e ∙ ap₂ (λ s v. set s (get_or ts j 0) v) inv.stored (inv.kept (144 + j) (inr (omega (arith, g.below)))) ∙ ap (λ k. stored_seen ts base k (kept_seen base g.first g.count)) more;
           kept = λ i h. kept i h ∙ inv.kept i h;
         }
 
-module _ {X : Type 0} (g : Group) (below : Below g) (fs : List (List X)) (r : ℕ) (v : List X) where
+module _ {X : Type 0} (g : Group) (fs : List (List X)) (r : ℕ) (v : List X) where
   -- a store into a register that is there, and into one that is not
   pub store_there : length fs ≡ 162 → r < g.count → (kept_seen (set fs (g.first + r) v) g.first g.count ≡ set (kept_seen fs g.first g.count) r v) × KeptOutside g fs (set fs (g.first + r) v)
   store_there long lt = (
-    kept_set fs g.first g.count r v lt (omega arith),
+    kept_set fs g.first g.count r v lt (omega (arith, g.below)),
     λ i h. get_or-set_other fs (g.first + r) i v [] (elim h [
       | inl a ↦ omega arith
       | inr b ↦ omega arith

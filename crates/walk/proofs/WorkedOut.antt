@@ -8,10 +8,10 @@ use Rattle.expression.specs.Run.{meaning}
 use Rattle.expression.specs.declared.item.Item.{Item}
 use Rattle.forms.specs.Forms.{Form}
 use Rattle.forms.specs.Limited.{limited}
-use Rattle.workspace.specs.declared.leaves.Group.{Group}
+use Rattle.workspace.specs.declared.group.Group.{Group}
 use Rattle.workspace.specs.Slots.{told, give}
 use Rattle.workspace.specs.Views.{named}
-use Rattle.workspace.specs.Evaluation.{reading, group_form, Below}
+use Rattle.workspace.specs.Evaluation.{reading, group_form, no_group}
 use Rattle.walk.specs.Walk.{nth, form_in_table}
 use Rattle.walk.specs.Seen.{kept_seen, table_leaves, KeptBut}
 
@@ -27,18 +27,18 @@ module _ {X : Type 0} (fs : List (List X)) where
   nth_past first (suc n) (suc i) h = nth_past (suc first) n i (omega arith)
 
   -- a register's form is the one in its slot
-  pub group_nth : (g : Group) → Below g → (i : ℕ) → group_form (named fs) g i ≡ nth (kept_seen fs g.first g.count) i
-  group_nth g b i =
+  pub group_nth : (g : Group) (i : ℕ) → group_form (named fs) g i ≡ nth (kept_seen fs g.first g.count) i
+  group_nth g i =
       cond_both (ltb i g.count) (Some (get_or (named fs) (g.first + i) [])) None (λ v. v ≡ nth (kept_seen fs g.first g.count) i)
-      (λ h. let lt : i < g.count = ltb-true i g.count h in ap Some (get_or-take 144 fs (g.first + i) [] (omega arith)) ∙ sym (nth_kept g.first g.count i lt))
+      (λ h. let lt : i < g.count = ltb-true i g.count h in ap Some (get_or-take 144 fs (g.first + i) [] (omega (arith, g.below))) ∙ sym (nth_kept g.first g.count i lt))
       (λ h. sym (nth_past g.first g.count i (ltb-false i g.count h)))
 
-  pub none_there : (i : ℕ) → group_form (named fs) (record { first = 0; count = 0 }) i ≡ None
+  pub none_there : (i : ℕ) → group_form (named fs) no_group i ≡ None
   none_there i = cond-false (ltb i 0) (Some (get_or (named fs) (0 + i) [])) None (le-ltb i 0 (omega arith))
 
 module _ {D : Type 0} (o : Ops D) where
-  pub reads : (fs : List (Form D)) (g : Group) (e : List Item) → Below g → meaning (reading o (table_leaves g) (named fs)) e ≡ form_in_table o (kept_seen fs g.first g.count) e
-  reads fs g e b = ap₂ (λ r s. meaning (limited o r s) e) (fun_ext (group_nth fs g b)) (fun_ext (none_there fs))
+  pub reads : (fs : List (Form D)) (g : Group) (e : List Item) → meaning (reading o (table_leaves g) (named fs)) e ≡ form_in_table o (kept_seen fs g.first g.count) e
+  reads fs g e = ap₂ (λ r s. meaning (limited o r s) e) (fun_ext (group_nth fs g)) (fun_ext (none_there fs))
 
 module _ {X U E : Type 0} (fs fs' : List (List X)) (to : ℕ) (lt : to < 154) (long : length fs ≡ 162) where
   -- what the evaluation of an expression into a slot leaves there, and elsewhere

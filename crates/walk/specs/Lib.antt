@@ -1,3 +1,5 @@
+pub mod Places
+pub mod Lists
 pub mod Settled
 pub mod Walk
 pub mod Laws

@@ -5,16 +5,14 @@ use Rattle.expression.specs.Run.{and_then}
 use Rattle.forms.specs.Forms.{Form}
 use Rattle.workspace.specs.Layout.{stack_at, pending_at, left_at, right_at}
 use Rattle.workspace.specs.Slots.{told}
-use Rattle.workspace.specs.declared.leaves.Group.{Group}
+use Rattle.workspace.specs.declared.group.Group.{Group}
 use Rattle.workspace.specs.declared.leaves.Leaves.{Leaves}
 use Rattle.workspace.specs.declared.leaves.Symbols.TheVariants.{Kept}
+use Rattle.workspace.specs.Evaluation.{no_group}
+use Rattle.walk.specs.Places.{known_first}
 use Rattle.walk.specs.declared.known.Noted.{Noted}
 use Rattle.walk.specs.declared.side.Side.{Side}
 use Rattle.walk.specs.Settled.{Known}
-
--- the first slot of known tests
-abbrev pub known_first : ℕ
-known_first = 96
 
 -- the forms of n slots from the first on
 abbrev pub kept_seen : {X : Type 0} → List (List X) → (first n : ℕ) → List (List X)
@@ -39,7 +37,7 @@ at_hand fs asked = record { test = asked.test; left = slice_index_or fs left_at 
 
 -- What an expression of a table reads: registers in a group of slots, and no symbols.
 abbrev pub table_leaves : Group → Leaves
-table_leaves g = record { registers = g; symbols = Kept (record { first = 0; count = 0 }) }
+table_leaves g = record { registers = g; symbols = Kept no_group }
 
 -- Every slot below the stack is as before, but one.
 abbrev pub KeptBut : {X : Type 0} → ℕ → (before after : List (List X)) → Type 0
@@ -66,12 +64,6 @@ Waits r form register before after = (registers : List (List _)) → told r (aft
 -- One more output, with the form of its expression, if there are fewer than sixteen.
 abbrev pub Appends : {X U E : Type 0} → Result U E → Option (List X) → (port : ℕ) → (before after : List (ℕ × List X)) → Type 0
 Appends r form port before after = told r after ≡ and_then form (λ f. cond (nat_lt (length before) 16) (Some (before ++ ((port, f) ∷ []))) None)
-
--- The registers of a machine lie in the first 32 slots, and its sixteen outputs behind them and before the known tests.
-pub record LegalSide (side : Side) : Type 0 where
-  pub registers : side.registers.first + side.registers.count ≤ 32
-  pub behind : 32 ≤ side.outputs
-  pub before : side.outputs + 16 ≤ known_first
 
 -- Every slot outside a group is as before.
 abbrev pub KeptOutside : {X : Type 0} → Group → (before after : List (List X)) → Type 0

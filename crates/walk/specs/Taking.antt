@@ -7,17 +7,18 @@ use Rattle.expression.specs.Shape.{is_expression}
 use Rattle.forms.specs.Forms.{Form}
 use Rattle.machine.specs.Answer.{Answer, good, refused}
 use Rattle.machine.specs.Machine.{Machine, Action, store, emit, Transition, Row, straight, branch, chosen, Each}
-use Rattle.machine.specs.Reading.{machine}
 use Rattle.workspace.specs.Layout.{left_at}
 use Rattle.walk.specs.declared.fault.WalkFault.{WalkFault}
 use Rattle.walk.specs.declared.fault.WalkFault.TheVariants.{OverLimits, Unsettled}
-use Rattle.walk.specs.declared.known.KnownTests.{KnownTests}
-use Rattle.walk.specs.declared.outputs.Outputs.{Outputs}
-use Rattle.walk.specs.declared.pending.Pending.{Pending}
+use Rattle.walk.specs.Lists.{KnownTests}
+use Rattle.walk.specs.Lists.{Outputs}
+use Rattle.walk.specs.Lists.{Pending}
+use Rattle.walk.specs.declared.order.ImpossibleStep.{ImpossibleStep}
 use Rattle.walk.specs.declared.side.Side.{Side}
 use Rattle.walk.specs.Walk.{Acted, act, Track, step, walk, must, allows, in_order}
 use Rattle.walk.specs.Settled.{Known}
-use Rattle.walk.specs.Seen.{kept_seen, stored_seen, outputs_seen, known_seen, known_first, at_hand}
+use Rattle.walk.specs.Seen.{kept_seen, stored_seen, outputs_seen, known_seen, at_hand}
+use Rattle.walk.specs.Places.{known_first}
 
 abbrev pub ReadableAction : Action → Type 0
 ReadableAction (store r e) = is_expression e ≡ true
@@ -31,15 +32,15 @@ pub record Readable (n : ℕ) (t : Transition) : Type 0 where
 -- The registers as they will be after the stores that wait, and the outputs so far.
 abbrev pub held_seen : {D : Type 0} → Side → Pending → Outputs → (registers fs : List (Form D)) → Acted D
 held_seen side pending outputs registers fs = record {
-  registers = stored_seen pending.targets fs pending.count registers;
-  outputs = outputs_seen outputs.ports fs side.outputs outputs.count;
+  registers = stored_seen pending.items fs pending.count registers;
+  outputs = outputs_seen outputs.items fs side.outputs outputs.count;
 }
 
 -- The registers and the outputs so far.
 abbrev pub acted_seen : {D : Type 0} → Side → Outputs → (fs : List (Form D)) → Acted D
 acted_seen side outputs fs = record {
   registers = kept_seen fs side.registers.first side.registers.count;
-  outputs = outputs_seen outputs.ports fs side.outputs outputs.count;
+  outputs = outputs_seen outputs.items fs side.outputs outputs.count;
 }
 
 -- What actions leave of registers and outputs.
@@ -64,31 +65,13 @@ put_told (Err e) turn fs = None
 abbrev pub KeptBelowTest : {X : Type 0} → (before after : List (List X)) → Type 0
 KeptBelowTest before after = (i : ℕ) → i < left_at → slice_index_or after i [] ≡ slice_index_or before i []
 
--- The machine of a table; refused words have one without rows.
-abbrev pub machine_or : Answer Machine → Machine
-machine_or (good m) = m
-machine_or (refused n m p) = record { registers = 0; inputs = 0; rows = [] }
-
-abbrev pub table_machine : List ℕ → Machine
-table_machine words = machine_or (machine words)
-
-abbrev pub IsTable : List ℕ → Type 0
-IsTable words = machine words ≡ good (table_machine words)
-
--- A state of the table's machine, and the states that its row goes to.
-abbrev pub There : List ℕ → ℕ → Type 0
-There words state = state < length (table_machine words).rows
-
-abbrev pub GoesThere : List ℕ → Row → Type 0
-GoesThere words row = (turn : Bool) → There words (chosen row turn).target
-
 -- Where a path stands: the state, the registers, the known tests and the outputs so far.
 abbrev pub track_seen : {D : Type 0} → Side → (state : ℕ) → KnownTests → Outputs → (fs : List (Form D)) → Track D
 track_seen side state known outputs fs = record {
   state = state;
   registers = kept_seen fs side.registers.first side.registers.count;
-  known = known_seen known.noted fs 0 known.count;
-  outputs = outputs_seen outputs.ports fs side.outputs outputs.count;
+  known = known_seen known.items fs 0 known.count;
+  outputs = outputs_seen outputs.items fs side.outputs outputs.count;
 }
 
 -- What a call leaves whose one refusal is over the limits (11).
@@ -117,7 +100,7 @@ abbrev pub reached_seen : {D : Type 0} → Side → (state : ℕ) → Outputs �
 reached_seen side state outputs fs = record {
   state = state;
   registers = kept_seen fs side.registers.first side.registers.count;
-  outputs = outputs_seen outputs.ports fs side.outputs outputs.count;
+  outputs = outputs_seen outputs.items fs side.outputs outputs.count;
 }
 
 -- The same with any list of tests beside it.
@@ -142,11 +125,11 @@ abbrev pub allowed_target : Row → Bool → Option ℕ
 allowed_target row turn = cond (allows row turn) (Some (chosen row turn).target) None
 
 -- What the check of a path says: an impossible step is refused (12), of this machine at that step.
-abbrev pub told_order : {U : Type 0} → (which : ℕ) → Result U ℕ → Answer (Unit {0})
+abbrev pub told_order : {U : Type 0} → (which : ℕ) → Result U ImpossibleStep → Answer (Unit {0})
 told_order which (Ok u) = good tt
-told_order which (Err i) = refused 12 which i
+told_order which (Err e) = refused 12 which e.step
 
-abbrev pub InOrder : {U : Type 0} → Machine → (state : ℕ) → List Bool → Result U ℕ → Type 0
+abbrev pub InOrder : {U : Type 0} → Machine → (state : ℕ) → List Bool → Result U ImpossibleStep → Type 0
 InOrder m state path r = (which : ℕ) → told_order which r ≡ in_order which m 0 state path
 
 -- What a yes says.

@@ -1,6 +1,7 @@
-// The tests known so far. The two sides of test j are the forms kept in slots KNOWN + 2 j and KNOWN + 2 j + 1.
-ghost use Rattle.std.specs.Prelude.{◌≡◌, ◌≤◌, length};
+// The tests known so far.
+ghost use Rattle.std.specs.Prelude.{◌≡◌};
 
+use crate::bounded::Bounded;
 use expression::test::Test;
 
 // A test with its answer.
@@ -10,11 +11,15 @@ pub struct Noted {
     pub says: bool,
 }
 
-// At most 24: eight facts and sixteen tests of a path.
-#[derive(Clone, Copy)]
-pub struct KnownTests {
-    pub noted: [Noted; 24],
-    pub count: usize,
-    ghost size: { length noted ≡ 24 },
-    ghost few: { count ≤ 24 },
+// Eight facts and sixteen tests of a path. The two sides of test j are the forms kept in slots KNOWN + 2 j and KNOWN + 2 j + 1.
+pub type KnownTests = Bounded<Noted, 24>;
+
+// No test is known.
+pub fn none_known() -> KnownTests
+    ensures { result.count ≡ 0 }
+{
+    Bounded::empty(Noted {
+        test: Test::Same,
+        says: false,
+    })
 }

@@ -15,15 +15,14 @@ use workspace::layout::{KNOWN, LEFT, RIGHT};
 // The test at hand becomes known with this answer.
 pub fn learn<D: Domain>(slots: &mut Slots<'_, D>, known: &mut KnownTests, test: Noted)
     requires { known.old.count < 24 }
-    ensures known { known_seen known.new.noted (forms slots.new) 0 known.new.count ≡ known_seen known.old.noted (forms slots.old) 0 known.old.count ++ (at_hand (forms slots.old) test ∷ []) }
+    ensures known { known_seen known.new.items (forms slots.new) 0 known.new.count ≡ known_seen known.old.items (forms slots.old) 0 known.old.count ++ (at_hand (forms slots.old) test ∷ []) }
     ensures count { known.new.count ≡ known.old.count + 1 }
     ensures kept { KeptBeforeKnown (forms slots.old) (forms slots.new) }
 {
     let first = KNOWN + 2 * known.count;
     slots.copy(LEFT, first);
     slots.copy(RIGHT, first + 1);
-    known.noted[known.count] = test;
-    known.count += 1;
+    known.push(test);
 }
 
 // The test that was put, if any, becomes known with the turn taken.
@@ -34,7 +33,7 @@ pub fn learn_put<D: Domain>(
     turn: bool,
 )
     requires { known.old.count < 24 }
-    ensures known { known_seen known.new.noted (forms slots.new) 0 known.new.count ≡ known_seen known.old.noted (forms slots.old) 0 known.old.count ++ put_seen test turn (forms slots.old) }
+    ensures known { known_seen known.new.items (forms slots.new) 0 known.new.count ≡ known_seen known.old.items (forms slots.old) 0 known.old.count ++ put_seen test turn (forms slots.old) }
     ensures count { known.new.count ≡ known.old.count + length (put_seen test turn (forms slots.old)) }
     ensures kept { KeptBeforeKnown (forms slots.old) (forms slots.new) }
 {
@@ -50,7 +49,7 @@ pub fn is_put_settled<D: Domain>(
     test: Option<Test>,
     turn: bool,
 ) -> bool
-    ensures { result ≡ all (settled D.ops (known_seen known.now.noted (forms slots.now) 0 known.now.count)) (put_seen test turn (forms slots.now)) }
+    ensures { result ≡ all (settled D.ops (known_seen known.now.items (forms slots.now) 0 known.now.count)) (put_seen test turn (forms slots.now)) }
 {
     match test {
         Some(test) => is_settled(slots, known, Noted { test, says: turn }),

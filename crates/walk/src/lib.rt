@@ -1,6 +1,7 @@
 // Paths followed by forward substitution: path condition, data transformation and outputs as normal forms.
 #![tactic(auto)]
 
+pub mod bounded;
 pub mod fault;
 pub mod known;
 pub mod laws;

@@ -3,12 +3,13 @@ ghost use Rattle.std.specs.Prelude.{◌≡◌, ◌&&◌, IfSome, ◌==◌, nat_l
 ghost use Rattle.machine.specs.Machine.{row_at};
 ghost use Rattle.machine.specs.Reading.{row_of};
 ghost use Rattle.machine.specs.Views.{ahead};
-ghost use Rattle.walk.specs.Taking.{IsTable, There, table_machine, allowed_target, InOrder, When};
+ghost use Rattle.machine.specs.Tables.{There, table_machine};
+ghost use Rattle.walk.specs.Taking.{allowed_target, InOrder, When};
 
 use crate::steps::row_there;
 use crate::testing::choose;
+use machine::accepted::Table;
 use machine::row::Row;
-use machine::table::read_table;
 use machine::view::Part;
 
 // The state that a turn leads to from a row, if the row has that turn.
@@ -28,23 +29,25 @@ fn target_of(row: Row<'_>, turn: bool) -> Option<u32>
 }
 
 // The same from a state.
-pub fn step_target(words: &[u32], state: u32, turn: bool) -> Option<u32>
-    requires table { IsTable words.now }
-    requires state { There words.now state }
-    ensures target { result ≡ allowed_target (row_at (table_machine words.now) state) turn }
-    ensures there { IfSome result (λ s. There words.now s) }
+pub fn step_target(table: Table<'_>, state: u32, turn: bool) -> Option<u32>
+    requires state { There table.words.now state }
+    ensures target { result ≡ allowed_target (row_at (table_machine table.entry.words.now) state) turn }
+    ensures there { IfSome result (λ s. There table.entry.words.now s) }
 {
-    target_of(row_there(words, state), turn)
+    target_of(row_there(table, state), turn)
 }
 
-// Whether words are a table with this state.
-pub fn is_there(words: &[u32], state: u32) -> bool
-    ensures { When result (IsTable words.now × There words.now state) }
+// Whether a table has this state.
+pub fn is_there(table: Table<'_>, state: u32) -> bool
+    ensures { When result (There table.entry.words.now state) }
 {
-    match read_table(words) {
-        Ok(head) => state < head.states,
-        Err(_) => false,
-    }
+    state < table.head.states
+}
+
+// The first step of a path that is impossible.
+#[derive(Clone, Copy, PartialEq, Eq)]
+pub struct ImpossibleStep {
+    pub step: usize,
 }
 
 // Whether a step into state 0 has another behind it.
@@ -55,18 +58,17 @@ fn resets_early(target: u32, next: usize, length: usize) -> bool
 }
 
 // Checks a path: no turn no at a straight row, and no step into state 0 before the last. The first step that is impossible is told.
-pub fn check_order(words: &[u32], start: u32, path: &[bool]) -> Result<(), usize>
-    requires table { IsTable words.now }
-    requires state { There words.now start }
-    ensures { InOrder (table_machine words.now) start path.now result }
+pub fn check_order(table: Table<'_>, start: u32, path: &[bool]) -> Result<(), ImpossibleStep>
+    requires state { There table.words.now start }
+    ensures { InOrder (table_machine table.entry.words.now) start path.now result }
 {
     let mut state = start;
-    for index in 0..path.len() {
-        let Some(target) = step_target(words, state, path[index]) else {
-            return Err(index);
+    for (index, turn) in path.iter().enumerate() {
+        let Some(target) = step_target(table, state, *turn) else {
+            return Err(ImpossibleStep { step: index });
         };
         if resets_early(target, index + 1, path.len()) {
-            return Err(index);
+            return Err(ImpossibleStep { step: index });
         }
         state = target;
     }

@@ -5,7 +5,7 @@ ghost use Rattle.expression.specs.Values.{answer};
 ghost use Rattle.forms.specs.Forms.{fixed};
 ghost use Rattle.workspace.specs.Layout.{left_at, right_at};
 ghost use Rattle.workspace.specs.Views.{forms};
-ghost use Rattle.walk.specs.Settled.{settled, twin, any, by_constants, one_form, is_test};
+ghost use Rattle.walk.specs.Settled.{settled, twin, any, by_constants, one_form};
 ghost use Rattle.walk.specs.Seen.{known_seen, known_at, at_hand};
 
 use crate::known::{KnownTests, Noted};
@@ -13,22 +13,6 @@ use domain::Domain;
 use expression::test::Test;
 use workspace::Slots;
 use workspace::layout::{KNOWN, LEFT, RIGHT};
-
-// Whether two tests are one.
-fn is_one(a: Test, b: Test) -> bool
-    ensures { result ≡ is_test a b }
-{
-    match a {
-        Test::Same => match b {
-            Test::Same => true,
-            Test::Below => false,
-        },
-        Test::Below => match b {
-            Test::Same => false,
-            Test::Below => true,
-        },
-    }
-}
 
 // The answer of a test.
 fn answer_of<D: Domain>(test: Test, v: D, w: D) -> bool
@@ -43,10 +27,10 @@ fn answer_of<D: Domain>(test: Test, v: D, w: D) -> bool
 // Whether known test j is the one at hand, with its answer.
 fn is_twin<D: Domain>(slots: &Slots<'_, D>, known: &KnownTests, asked: Noted, j: usize) -> bool
     requires { j < known.now.count }
-    ensures { result ≡ twin D.ops (at_hand (forms slots.now) asked) (known_at known.now.noted (forms slots.now) j) }
+    ensures { result ≡ twin D.ops (at_hand (forms slots.now) asked) (known_at known.now.items (forms slots.now) j) }
 {
-    let noted = known.noted[j];
-    is_one(asked.test, noted.test)
+    let noted = known.items[j];
+    asked.test == noted.test
         && slots.same(LEFT, KNOWN + 2 * j)
         && slots.same(RIGHT, KNOWN + 2 * j + 1)
         && asked.says == noted.says
@@ -54,14 +38,9 @@ fn is_twin<D: Domain>(slots: &Slots<'_, D>, known: &KnownTests, asked: Noted, j:
 
 // Whether the test at hand is known with this answer.
 fn is_known<D: Domain>(slots: &Slots<'_, D>, known: &KnownTests, asked: Noted) -> bool
-    ensures { result ≡ any (twin D.ops (at_hand (forms slots.now) asked)) (known_seen known.now.noted (forms slots.now) 0 known.now.count) }
+    ensures { result ≡ any (twin D.ops (at_hand (forms slots.now) asked)) (known_seen known.now.items (forms slots.now) 0 known.now.count) }
 {
-    for j in 0..known.count {
-        if is_twin(slots, known, asked, j) {
-            return true;
-        }
-    }
-    false
+    (0..known.count).any(|j| is_twin(slots, known, asked, j))
 }
 
 // Whether both sides are constants, and the domain gives this answer.
@@ -79,9 +58,9 @@ fn by_constants<D: Domain>(slots: &Slots<'_, D>, asked: Noted) -> bool
 
 // Whether the answer of the test at hand is settled.
 pub fn is_settled<D: Domain>(slots: &Slots<'_, D>, known: &KnownTests, asked: Noted) -> bool
-    ensures { result ≡ settled D.ops (known_seen known.now.noted (forms slots.now) 0 known.now.count) (at_hand (forms slots.now) asked) }
+    ensures { result ≡ settled D.ops (known_seen known.now.items (forms slots.now) 0 known.now.count) (at_hand (forms slots.now) asked) }
 {
     is_known(slots, known, asked)
         || by_constants(slots, asked)
-        || is_one(asked.test, Test::Same) && slots.same(LEFT, RIGHT) && asked.says
+        || asked.test == Test::Same && slots.same(LEFT, RIGHT) && asked.says
 }

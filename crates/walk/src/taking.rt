@@ -5,13 +5,14 @@ ghost use Rattle.machine.specs.Views.{ahead};
 ghost use Rattle.workspace.specs.Slots.{told};
 ghost use Rattle.workspace.specs.Views.{forms};
 ghost use Rattle.walk.specs.Walk.{form_in_table};
-ghost use Rattle.walk.specs.Seen.{kept_seen, LegalSide, KeptBeside, KeptApart};
+ghost use Rattle.walk.specs.Seen.{kept_seen, KeptBeside, KeptApart};
 ghost use Rattle.walk.specs.Taking.{Readable, held_seen, acted_seen, acted};
 
 use crate::outputs::{Outputs, append_output};
 use crate::pending::{Pending, commit, hold_store};
 use crate::side::Side;
 use domain::Domain;
+use expression::shape::Expression;
 use machine::row::Row;
 use machine::view::Part;
 use workspace::{OverLimits, Slots};
@@ -24,7 +25,6 @@ fn hold_actions<D: Domain>(
     pending: &mut Pending,
     outputs: &mut Outputs,
 ) -> Result<u32, OverLimits>
-    requires side { LegalSide side }
     requires readable { Readable pending.old.count (transition_of (ahead row.old)) }
     ensures held { told result (held_seen side pending.new outputs.new (kept_seen (forms slots.old) side.registers.first side.registers.count) (forms slots.new)) ≡ acted D.ops (form_in_table D.ops (kept_seen (forms slots.old) side.registers.first side.registers.count)) (transition_of (ahead row.old)).actions (held_seen side pending.old outputs.old (kept_seen (forms slots.old) side.registers.first side.registers.count) (forms slots.old)) }
     ensures target { IfOk result (λ s. s ≡ (transition_of (ahead row.old)).target) }
@@ -33,9 +33,13 @@ fn hold_actions<D: Domain>(
     while let Some(part) = row.next_part() {
         match part {
             Part::Store { register, value } => {
+                let value = Expression { words: value };
                 hold_store(slots, pending, side.registers, register, value)?
             }
-            Part::Emit { port, value } => append_output(slots, outputs, side, port, value)?,
+            Part::Emit { port, value } => {
+                let value = Expression { words: value };
+                append_output(slots, outputs, side, port, value)?
+            }
             Part::Test { .. } => {}
             Part::Goto { state } => return Ok(state),
         }
@@ -50,16 +54,12 @@ pub fn take_transition<D: Domain>(
     side: Side,
     outputs: &mut Outputs,
 ) -> Result<u32, OverLimits>
-    requires side { LegalSide side }
     requires readable { Readable 0 (transition_of (ahead row.old)) }
     ensures acted { told result (acted_seen side outputs.new (forms slots.new)) ≡ acted D.ops (form_in_table D.ops (kept_seen (forms slots.old) side.registers.first side.registers.count)) (transition_of (ahead row.old)).actions (acted_seen side outputs.old (forms slots.old)) }
     ensures target { IfOk result (λ s. s ≡ (transition_of (ahead row.old)).target) }
     ensures kept { OnOk result (KeptApart side (forms slots.old) (forms slots.new)) }
 {
-    let mut pending = Pending {
-        targets: [0; 8],
-        count: 0,
-    };
+    let mut pending = Pending::empty(0);
     let state = hold_actions(slots, row, side, &mut pending, outputs)?;
     commit(slots, &pending, side.registers);
     Ok(state)

@@ -4,13 +4,13 @@ ghost use Rattle.machine.specs.Machine.{chosen};
 ghost use Rattle.machine.specs.Reading.{transition_of, behind, row_of};
 ghost use Rattle.machine.specs.Views.{ahead};
 ghost use Rattle.workspace.specs.Views.{forms};
-ghost use Rattle.workspace.specs.Evaluation.{Below};
 ghost use Rattle.walk.specs.Walk.{tested};
 ghost use Rattle.walk.specs.Seen.{kept_seen};
 ghost use Rattle.walk.specs.Taking.{ReadableRow, put_told, KeptBelowTest};
 
 use crate::working::work_out;
 use domain::Domain;
+use expression::shape::Expression;
 use expression::test::Test;
 use machine::row::Row;
 use machine::view::Part;
@@ -33,7 +33,6 @@ pub fn put_test<D: Domain>(
     registers: Group,
     turn: bool,
 ) -> Result<Option<Test>, OverLimits>
-    requires registers { Below registers }
     requires readable { ReadableRow (row_of (ahead row.old)) }
     ensures tests { put_told result turn (forms slots.new) ≡ tested D.ops (row_of (ahead row.old)) turn (kept_seen (forms slots.old) registers.first registers.count) }
     ensures goes { OnOk result (transition_of (ahead row.new) ≡ chosen (row_of (ahead row.old)) turn) }
@@ -43,8 +42,8 @@ pub fn put_test<D: Domain>(
     let Some(Part::Test { test, left, right }) = behind.next_part() else {
         return Ok(None);
     };
-    work_out(slots, registers, left, LEFT)?;
-    work_out(slots, registers, right, RIGHT)?;
+    work_out(slots, registers, Expression { words: left }, LEFT)?;
+    work_out(slots, registers, Expression { words: right }, RIGHT)?;
     choose(&mut behind, turn);
     *row = behind;
     Ok(Some(test))

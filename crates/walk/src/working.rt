@@ -1,15 +1,14 @@
 // Expressions of a table, worked out over the forms of its registers.
-ghost use Rattle.std.specs.Prelude.{◌≡◌, ◌<◌, true, [], map, OnOk, slice_index_or};
-ghost use Rattle.expression.specs.Words.{item_of};
-ghost use Rattle.expression.specs.Shape.{is_expression};
+ghost use Rattle.std.specs.Prelude.{◌≡◌, ◌<◌, [], OnOk, slice_index_or};
+ghost use Rattle.expression.specs.Expressions.{items};
 ghost use Rattle.workspace.specs.Layout.{stack_at};
 ghost use Rattle.workspace.specs.Slots.{told};
 ghost use Rattle.workspace.specs.Views.{forms};
-ghost use Rattle.workspace.specs.Evaluation.{Below};
 ghost use Rattle.walk.specs.Walk.{form_in_table};
 ghost use Rattle.walk.specs.Seen.{kept_seen, table_leaves, KeptBut};
 
 use domain::Domain;
+use expression::shape::Expression;
 use workspace::{Group, Leaves, OverLimits, Slots, Symbols, evaluate_into};
 
 // What an expression of a table reads: registers in a group of slots, and no symbols.
@@ -18,7 +17,7 @@ fn table_leaves(registers: Group) -> Leaves
 {
     Leaves {
         registers,
-        symbols: Symbols::Kept(Group { first: 0, count: 0 }),
+        symbols: Symbols::Kept(Group::none()),
     }
 }
 
@@ -26,14 +25,12 @@ fn table_leaves(registers: Group) -> Leaves
 pub fn work_out<D: Domain>(
     slots: &mut Slots<'_, D>,
     registers: Group,
-    words: &[u32],
+    expression: Expression<'_>,
     to: usize,
 ) -> Result<(), OverLimits>
-    requires expression { is_expression (map item_of words.now) ≡ true }
-    requires registers { Below registers }
     requires slot { to < stack_at }
-    ensures value { told result (slice_index_or (forms slots.new) to []) ≡ form_in_table D.ops (kept_seen (forms slots.old) registers.first registers.count) (map item_of words.now) }
+    ensures value { told result (slice_index_or (forms slots.new) to []) ≡ form_in_table D.ops (kept_seen (forms slots.old) registers.first registers.count) (items expression.entry) }
     ensures kept { OnOk result (KeptBut to (forms slots.old) (forms slots.new)) }
 {
-    evaluate_into(slots, table_leaves(registers), words, to)
+    evaluate_into(slots, table_leaves(registers), expression, to)
 }

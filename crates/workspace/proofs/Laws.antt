@@ -1,10 +1,14 @@
 -- Writing a slot is `set` in the list of forms; writing behind the slots changes none.
 use Rattle.std.proofs.Common.{◌≡◌, ℕ, zero, suc, ◌+◌, ◌*◌, ◌<◌, ◌≤◌, ◌≢◌, List, [], ◌∷◌, length, get_or, take, drop, set, replicate, sym, refl, ap, ◌∙◌, inl, inr, arith}
+use Rattle.std.proofs.Math.Bridge.{le_prop}
+use mathlib.Core.HLevel.{is_prop→PathP}
 use Rattle.std.proofs.lemmas.List.{drop-drop, ext_get_or, get_or-set_same, get_or-set_other, length-set, length-replicate}
 use Rattle.std.proofs.lemmas.Bool.{cases_order}
 use Rattle.forms.specs.Rows.{part, Written, Kept}
 use Rattle.forms.proofs.Parts.{part_kept, part_written_at, written_kept}
 use Rattle.forms.proofs.Scaling.{part_above}
+use Rattle.workspace.specs.declared.group.Group.{Group}
+use Rattle.workspace.specs.declared.slots.Slots.{Slots}
 use Rattle.workspace.specs.Slots.{slots, place, Ready}
 
 module _ {X : Type 0} where
@@ -87,3 +91,11 @@ ready_empty ns xs e h = rw e (record { count = length-replicate {A = ℕ} 162 0;
 
     zeros : (k : ℕ) → get_or (replicate 162 0) k 0 ≤ 16
     zeros k = let z = past 162 k in omega arith
+
+-- what the type says of slots
+pub ready : {D : Type 0} (s : Slots D) → Ready s.lens.of s.row.now
+ready s = record { count = s.count; few = s.few; room = s.room }
+
+-- a group is told by its first slot and its count
+pub group_is : (g h : Group) → g.first ≡ h.first → g.count ≡ h.count → g ≡ h
+group_is g h e f = λ i. record { first = e i; count = f i; below = is_prop→PathP (λ k. e k + f k ≤ 144) (λ k. le_prop) g.below h.below i }

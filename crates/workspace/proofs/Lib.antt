@@ -3,3 +3,4 @@ pub mod Steps
 pub mod Stack
 pub mod Evaluating
 pub mod Comparing
+pub mod Applied

@@ -4,6 +4,7 @@ use Rattle.domain.specs.Ring.{Ops}
 use Rattle.expression.specs.Run.{and_then, meaning}
 use Rattle.expression.specs.declared.item.Item.{Item}
 use Rattle.forms.specs.Forms.{Form, symbol_form, same_form}
+use Rattle.workspace.specs.Evaluation.{no_group}
 use Rattle.forms.specs.Limited.{limited}
 use Rattle.forms.specs.Polynomials.{SamePolynomial}
 use Rattle.workspace.specs.declared.leaves.Leaves.{Leaves}
@@ -20,7 +21,7 @@ compared o m n = and_then m (λ p. and_then n (λ q. Some (same_form o p q)))
 
 -- No registers, and symbols that stand for themselves.
 abbrev pub own_leaves : Leaves
-own_leaves = record { registers = record { first = 0; count = 0 }; symbols = Own }
+own_leaves = record { registers = no_group; symbols = Own }
 
 -- whether two expressions over inputs and symbols have one form
 abbrev pub one_form : {D : Type 0} → Ops D → List Item → List Item → Option Bool

@@ -1,4 +1,5 @@
 -- What the leaves of an expression stand for, and the stack on which it is worked out.
+use Rattle.std.proofs.Common.{arith}
 use Rattle.std.specs.Prelude.{ℕ, zero, suc, ◌+◌, ◌-◌, ◌<◌, ◌≤◌, cond, List, [], ◌∷◌, Some, None, Option, nat_lt, slice_index_or}
 use Rattle.domain.specs.Ring.{Ops}
 use Rattle.expression.specs.Run.{Algebra}
@@ -6,8 +7,8 @@ use Rattle.expression.specs.Words.{takes}
 use Rattle.expression.specs.declared.item.Item.{Item}
 use Rattle.forms.specs.Forms.{Form, symbol_form}
 use Rattle.forms.specs.Limited.{limited}
-use Rattle.workspace.specs.Layout.{stack_at, pending_at}
-use Rattle.workspace.specs.declared.leaves.Group.{Group}
+use Rattle.workspace.specs.Layout.{stack_at}
+use Rattle.workspace.specs.declared.group.Group.{Group}
 use Rattle.workspace.specs.declared.leaves.Leaves.{Leaves}
 use Rattle.workspace.specs.declared.leaves.Symbols.{Symbols}
 use Rattle.workspace.specs.declared.leaves.Symbols.TheVariants.{Own, Kept}
@@ -25,17 +26,9 @@ symbol_forms o fs (Kept g) = group_form fs g
 abbrev pub reading : {D : Type 0} → Ops D → Leaves → List (Form D) → Algebra (Form D)
 reading o l fs = limited o (group_form fs l.registers) (symbol_forms o fs l.symbols)
 
--- Groups of leaves lie among the slots that may be read.
-abbrev pub Below : Group → Type 0
-Below g = g.first + g.count ≤ pending_at
-
-abbrev pub BelowSymbols : Symbols → Type 0
-BelowSymbols Own = Unit {0}
-BelowSymbols (Kept g) = Below g
-
-pub record Legal (l : Leaves) : Type 0 where
-  pub registers : Below l.registers
-  pub symbols : BelowSymbols l.symbols
+-- no slots
+abbrev pub no_group : Group
+no_group = record { first = 0; count = 0; below = omega arith }
 
 -- the stack of d values, the last first
 unfoldable pub stack : {X : Type 0} → ℕ → List (List X) → List (List X)

@@ -1,18 +1,30 @@
 // What is done with forms in slots: each operation is one equation on the list of forms.
-ghost use Rattle.std.specs.Prelude.{◌≡◌, ◌+◌, ◌<◌, ◌≤◌, [], length, replicate, slice_index_or, slice_set};
+ghost use Rattle.std.specs.Prelude.{◌≡◌, ◌+◌, ◌-◌, ◌*◌, ◌<◌, ◌≤◌, ◌⊎◌, [], length, replicate, slice_index_or, slice_set};
+ghost use Rattle.forms.specs.Rows.{part, Within};
 ghost use Rattle.forms.specs.Forms as Forms;
-ghost use Rattle.workspace.specs.Layout.{slot_count, terms_needed};
+ghost use Rattle.workspace.specs.Layout.{slot_count, scratch_at, terms_needed};
 ghost use Rattle.workspace.specs.Slots.{told, give};
 ghost use Rattle.workspace.specs.Views.{forms, named};
-ghost use Rattle.workspace.specs.Evaluation.{group_form, Below};
+ghost use Rattle.workspace.specs.Evaluation.{group_form};
 
-use crate::leaves::Group;
+use crate::group::Group;
+use crate::layout::SCRATCH;
 use crate::lengths::Lengths;
 use crate::limits::OverLimits;
-use crate::operations;
 use crate::slots::Slots;
 use domain::Domain;
-use forms::Term;
+use forms::compare::{fixed, same_parts};
+use forms::merge::merge;
+use forms::monomial::CODES;
+use forms::product::multiply;
+use forms::rows::{copy, degree_of, negate};
+use forms::{Monomial, Span, Term};
+
+// The most terms of a form.
+const LIMIT: usize = 16;
+
+// The highest degree of a product.
+const HIGHEST: u32 = CODES;
 
 // Symbols from here on, and inputs from here on, have no code.
 const SYMBOLS: u32 = 32;
@@ -30,16 +42,66 @@ impl<'a, D> Slots<'a, D> {
             lens: Lengths::empty(),
         }
     }
+
+    // The terms of a slot's form.
+    fn terms(&self, k: usize) -> &[Term<D>]
+        requires { k < slot_count }
+        ensures { result.now ≡ slice_index_or (forms self.now) k [] }
+    {
+        let s = self.lens.span(k);
+        let row: &[Term<D>] = self.row;
+        &row[s.from..s.to]
+    }
 }
 
 impl<D: Domain> Slots<'_, D> {
+    // Slot k gets the terms of the part `s`, at most sixteen.
+    fn place(&mut self, s: Span, k: usize)
+        requires slot { k < slot_count }
+        requires s { Within s (length self.old.row.now) }
+        requires few { s.to - s.from ≤ 16 }
+        requires apart { (16 * k ≤ s.from) ⊎ (s.to ≤ 16 * k) }
+        ensures forms { forms self.new ≡ slice_set (forms self.old) k (part s self.old.row.now) }
+    {
+        copy(self.row, s, 16 * k);
+        self.lens.of[k] = (s.to - s.from) as u8;
+    }
+
+    // Slot k gets the terms of the part `s` behind the slots, if they are at most sixteen.
+    fn settle(&mut self, s: Span, k: usize) -> Result<(), OverLimits>
+        requires slot { k < slot_count }
+        requires s { Within s (length self.old.row.now) }
+        requires behind { scratch_at ≤ s.from }
+        ensures forms { told result (forms self.new) ≡ give k (Forms.limit (part s self.old.row.now)) (forms self.old) }
+    {
+        if s.to - s.from > LIMIT {
+            return Err(OverLimits);
+        }
+        self.place(s, k);
+        Ok(())
+    }
+
+    // Slot `to` gets the term, or no term where its coefficient is zero.
+    fn single(&mut self, t: Term<D>, to: usize)
+        requires slot { to < slot_count }
+        ensures forms { forms self.new ≡ slice_set (forms self.old) to (Forms.unless_zero D.ops t []) }
+    {
+        if t.coefficient.same(D::zero()) {
+            self.lens.of[to] = 0;
+            return;
+        }
+        self.row[16 * to] = t;
+        self.lens.of[to] = 1;
+    }
+
     // Slot `to` gets the sum of the forms of two slots.
     pub fn sum(&mut self, a: usize, b: usize, to: usize) -> Result<(), OverLimits>
         requires slots { (a < slot_count) × ((b < slot_count) × (to < slot_count)) }
         ensures forms { told result (forms self.new) ≡ give to (Forms.sum D.ops (slice_index_or (forms self.old) a []) (slice_index_or (forms self.old) b [])) (forms self.old) }
     {
-        let Slots { row, lens } = self;
-        operations::sum(row, lens, a, b, to)
+        let (p, q) = (self.lens.span(a), self.lens.span(b));
+        let s = merge(self.row, p, q, SCRATCH);
+        self.settle(s, to)
     }
 
     // Slot `to` gets the difference of the forms of two slots.
@@ -47,8 +109,10 @@ impl<D: Domain> Slots<'_, D> {
         requires slots { (a < slot_count) × ((b < slot_count) × (to < slot_count)) }
         ensures forms { told result (forms self.new) ≡ give to (Forms.difference D.ops (slice_index_or (forms self.old) a []) (slice_index_or (forms self.old) b [])) (forms self.old) }
     {
-        let Slots { row, lens } = self;
-        operations::difference(row, lens, a, b, to)
+        let (p, q) = (self.lens.span(a), self.lens.span(b));
+        let n = negate(self.row, q, SCRATCH);
+        let s = merge(self.row, p, n, n.to);
+        self.settle(s, to)
     }
 
     // Slot `to` gets the product of the forms of two slots.
@@ -56,8 +120,12 @@ impl<D: Domain> Slots<'_, D> {
         requires slots { (a < slot_count) × ((b < slot_count) × (to < slot_count)) }
         ensures forms { told result (forms self.new) ≡ give to (Forms.product D.ops (slice_index_or (forms self.old) a []) (slice_index_or (forms self.old) b [])) (forms self.old) }
     {
-        let Slots { row, lens } = self;
-        operations::product(row, lens, a, b, to)
+        if degree_of(self.terms(a)) + degree_of(self.terms(b)) > HIGHEST {
+            return Err(OverLimits);
+        }
+        let (p, q) = (self.lens.span(a), self.lens.span(b));
+        let s = multiply(self.row, p, q, SCRATCH);
+        self.settle(s, to)
     }
 
     // Slot `to` gets the form of slot `from`.
@@ -65,8 +133,8 @@ impl<D: Domain> Slots<'_, D> {
         requires slots { (from < slot_count) × (to < slot_count) }
         ensures forms { forms self.new ≡ slice_set (forms self.old) to (slice_index_or (forms self.old) from []) }
     {
-        let Slots { row, lens } = self;
-        operations::copy_slot(row, lens, from, to)
+        let s = self.lens.span(from);
+        self.place(s, to);
     }
 
     // Slot `to` gets the form of slot `a` negated.
@@ -74,8 +142,9 @@ impl<D: Domain> Slots<'_, D> {
         requires slots { (a < slot_count) × (to < slot_count) }
         ensures forms { forms self.new ≡ slice_set (forms self.old) to (Forms.negation D.ops (slice_index_or (forms self.old) a [])) }
     {
-        let Slots { row, lens } = self;
-        operations::negation(row, lens, a, to)
+        let p = self.lens.span(a);
+        let s = negate(self.row, p, SCRATCH);
+        self.place(s, to);
     }
 
     // Slot `to` gets a constant.
@@ -83,8 +152,14 @@ impl<D: Domain> Slots<'_, D> {
         requires slots { to < slot_count }
         ensures forms { forms self.new ≡ slice_set (forms self.old) to (Forms.constant_form D.ops n) }
     {
-        let Slots { row, lens } = self;
-        operations::constant(row, lens, n, to)
+        let (coefficient, monomial) = (D::constant(n), Monomial::none());
+        self.single(
+            Term {
+                coefficient,
+                monomial,
+            },
+            to,
+        );
     }
 
     // Slot `to` gets the variable with this code.
@@ -92,8 +167,14 @@ impl<D: Domain> Slots<'_, D> {
         requires slots { to < slot_count }
         ensures forms { forms self.new ≡ slice_set (forms self.old) to (Forms.variable D.ops code) }
     {
-        let Slots { row, lens } = self;
-        operations::variable(row, lens, code, to)
+        let (coefficient, monomial) = (D::one(), Monomial::of(code));
+        self.single(
+            Term {
+                coefficient,
+                monomial,
+            },
+            to,
+        );
     }
 
     // Slot `to` gets symbol n, if it has a code.
@@ -122,7 +203,6 @@ impl<D: Domain> Slots<'_, D> {
 
     // Slot `to` gets the form in place n of a group, if there are so many.
     pub fn read(&mut self, group: Group, n: u32, to: usize) -> Result<(), OverLimits>
-        requires group { Below group }
         requires slots { to < slot_count }
         ensures forms { told result (forms self.new) ≡ give to (group_form (named (forms self.old)) group n) (forms self.old) }
     {
@@ -138,7 +218,7 @@ impl<D: Domain> Slots<'_, D> {
         requires slots { (a < slot_count) × (b < slot_count) }
         ensures { result ≡ Forms.same_form D.ops (slice_index_or (forms self.now) a []) (slice_index_or (forms self.now) b []) }
     {
-        operations::same_slots(self.row, &self.lens, a, b)
+        same_parts(self.row, self.lens.span(a), self.lens.span(b))
     }
 
     // The constant that the form of a slot is, if it is one.
@@ -146,6 +226,6 @@ impl<D: Domain> Slots<'_, D> {
         requires slots { a < slot_count }
         ensures { result ≡ Forms.fixed D.ops (slice_index_or (forms self.now) a []) }
     {
-        operations::fixed_slot(self.row, &self.lens, a)
+        fixed(self.terms(a))
     }
 }

@@ -1,12 +1,12 @@
 // Expressions worked out to forms, on a stack of slots.
-ghost use Rattle.std.specs.Prelude.{◌≡◌, ◌+◌, ◌-◌, ◌<◌, true, [], map, slice_index_or};
-ghost use Rattle.expression.specs.Words.{item_of, takes};
-ghost use Rattle.expression.specs.Shape.{is_expression};
+ghost use Rattle.std.specs.Prelude.{◌≡◌, ◌+◌, ◌-◌, ◌<◌, [], slice_index_or};
+ghost use Rattle.expression.specs.Words.{takes};
+ghost use Rattle.expression.specs.Expressions.{items};
 ghost use Rattle.expression.specs.Run as Run;
 ghost use Rattle.workspace.specs.Layout.{stack_at};
 ghost use Rattle.workspace.specs.Slots.{told, give};
 ghost use Rattle.workspace.specs.Views.{forms, named, below_stack};
-ghost use Rattle.workspace.specs.Evaluation.{reading, stack, Stands, Legal};
+ghost use Rattle.workspace.specs.Evaluation.{reading, stack, Stands};
 
 use crate::layout::STACK;
 use crate::leaves::{Leaves, Symbols};
@@ -14,7 +14,7 @@ use crate::limits::OverLimits;
 use crate::slots::Slots;
 use domain::Domain;
 use expression::item::Item;
-use expression::words::item_of;
+use expression::shape::Expression;
 
 // Works one item on the stack of `depth` values.
 fn apply<D: Domain>(
@@ -24,7 +24,6 @@ fn apply<D: Domain>(
     depth: usize,
 ) -> Result<(), OverLimits>
     requires stands { Stands depth item }
-    requires leaves { Legal leaves }
     ensures kept { told result (below_stack (forms slots.new)) ≡ told result (below_stack (forms slots.old)) }
     ensures stack { told result (stack (depth - takes item + 1) (forms slots.new)) ≡ Run.step (reading D.ops leaves (named (forms slots.old))) item (stack depth (forms slots.old)) }
 {
@@ -49,16 +48,14 @@ fn apply<D: Domain>(
 pub fn evaluate<D: Domain>(
     slots: &mut Slots<'_, D>,
     leaves: Leaves,
-    words: &[u32],
+    expression: Expression<'_>,
 ) -> Result<(), OverLimits>
-    requires expression { is_expression (map item_of words.now) ≡ true }
-    requires leaves { Legal leaves }
     ensures kept { told result (below_stack (forms slots.new)) ≡ told result (below_stack (forms slots.old)) }
-    ensures value { told result (slice_index_or (forms slots.new) stack_at []) ≡ Run.meaning (reading D.ops leaves (named (forms slots.old))) (map item_of words.now) }
+    ensures value { told result (slice_index_or (forms slots.new) stack_at []) ≡ Run.meaning (reading D.ops leaves (named (forms slots.old))) (items expression.entry) }
 {
     let mut depth: usize = 0;
-    for w in words {
-        let item = item_of(*w);
+    for w in expression.words {
+        let item = Item::from(*w);
         apply(slots, leaves, item, depth)?;
         depth = depth - item.taken() + 1;
     }
@@ -69,15 +66,13 @@ pub fn evaluate<D: Domain>(
 pub fn evaluate_into<D: Domain>(
     slots: &mut Slots<'_, D>,
     leaves: Leaves,
-    words: &[u32],
+    expression: Expression<'_>,
     to: usize,
 ) -> Result<(), OverLimits>
-    requires expression { is_expression (map item_of words.now) ≡ true }
-    requires leaves { Legal leaves }
     requires slot { to < stack_at }
-    ensures forms { told result (below_stack (forms slots.new)) ≡ give to (Run.meaning (reading D.ops leaves (named (forms slots.old))) (map item_of words.now)) (below_stack (forms slots.old)) }
+    ensures forms { told result (below_stack (forms slots.new)) ≡ give to (Run.meaning (reading D.ops leaves (named (forms slots.old))) (items expression.entry)) (below_stack (forms slots.old)) }
 {
-    evaluate(slots, leaves, words)?;
+    evaluate(slots, leaves, expression)?;
     slots.copy(STACK, to);
     Ok(())
 }

@@ -1,13 +1,9 @@
 // What the leaves of an expression stand for.
 ghost use Rattle.std.specs.Prelude.{◌≡◌};
 ghost use Rattle.workspace.specs.Comparison.{own_leaves};
+ghost use Rattle.workspace.specs.Evaluation.{no_group};
 
-// The slots from `first` on, `count` of them.
-#[derive(Clone, Copy)]
-pub struct Group {
-    pub first: usize,
-    pub count: u32,
-}
+use crate::group::Group;
 
 // What symbols stand for: themselves, or the forms kept in slots.
 #[derive(Clone, Copy)]
@@ -23,13 +19,22 @@ pub struct Leaves {
     pub symbols: Symbols,
 }
 
+impl Group {
+    // No slots.
+    pub fn none() -> Group
+        ensures { result ≡ no_group }
+    {
+        Group { first: 0, count: 0 }
+    }
+}
+
 impl Leaves {
     // No registers, and symbols that stand for themselves.
     pub fn own() -> Leaves
         ensures { result ≡ own_leaves }
     {
         Leaves {
-            registers: Group { first: 0, count: 0 },
+            registers: Group::none(),
             symbols: Symbols::Own,
         }
     }

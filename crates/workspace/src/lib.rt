@@ -3,17 +3,18 @@
 
 mod arithmetic;
 mod evaluator;
+mod group;
 pub mod layout;
 mod leaves;
 mod lengths;
 mod level;
 mod limits;
-mod operations;
 mod slots;
 mod workspace;
 
 pub use evaluator::{evaluate, evaluate_into};
-pub use leaves::{Group, Leaves, Symbols};
+pub use group::Group;
+pub use leaves::{Leaves, Symbols};
 pub use lengths::Lengths;
 pub use level::{Held, Level};
 pub use limits::OverLimits;

@@ -1,6 +1,7 @@
 use Rattle.std.proofs.Common.{◌≡◌, ◌<◌, true, Some, None, sym, refl, arith, rules}
 use Rattle.machine.specs.Machine.{row_at}
-use Rattle.walk.specs.Taking.{table_machine, allowed_target}
+use Rattle.machine.specs.Tables.{table_machine}
+use Rattle.walk.specs.Taking.{allowed_target}
 use Rattle.coverage.proofs.Searching.{at_depth, when_filed, when_not_begun, when_yes, when_straight, when_no}
 use Rattle.coverage.proofs.tree.+first_unmatched.Goals as goal
 

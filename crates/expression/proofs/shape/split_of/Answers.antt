@@ -1,15 +1,9 @@
-use Rattle.std.proofs.Common.{rules}
-use Rattle.expression.specs.Shape.{split}
-use Rattle.expression.proofs.Shapes.{split_none, split_found, split_next}
+use Rattle.std.proofs.Common.{◌≡◌, true, false, rules, tests}
+use Rattle.std.proofs.lemmas.Iterator.{first_from_Range}
+use Rattle.expression.proofs.Splits.{both, split_is}
 use Rattle.expression.proofs.shape.split_of.Goals as goal
 
-pub returns-then-splits_at : goal.returns-then-splits_at
-unfolding split
-returns-then-splits_at c = search (rules, split_found)
-
-pub loop-k-preserved : goal.loop-k-preserved
-loop-k-preserved c = search (rules, split_next)
-
 pub returns : goal.returns
-unfolding split
-returns c = search (rules, split_none)
+returns c =
+    let ws = c.args.words.now in
+    split_is ws _ (first_from_Range _ _ _ _ (λ k. both ws k ≡ true) (λ k. both ws k ≡ false) c.find.ensures.ran (λ x q k. search (rules, tests)) (λ x q k. search (rules, tests)))

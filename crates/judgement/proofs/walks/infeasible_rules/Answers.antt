@@ -1,27 +1,26 @@
 use Rattle.std.proofs.Common.{ℕ, sym, ap, ◌∙◌, subst, arith}
 use Rattle.std.proofs.lemmas.Result.{err_from_is_err_and}
 use Rattle.workspace.specs.Views.{forms}
-use Rattle.walk.specs.Seen.{kept_seen, known_seen, LegalSide}
-use Rattle.walk.specs.Taking.{There, table_machine, track_seen}
+use Rattle.walk.specs.Seen.{kept_seen, known_seen}
+use Rattle.machine.specs.Tables.{There, table_machine}
+use Rattle.walk.specs.Taking.{track_seen}
 use Rattle.correspondence.specs.Judgement.{Started, never_taken}
 use Rattle.rules.specs.Kept.{kept_pair}
-use Rattle.judgement.proofs.Standing.{first_table, first_there}
-use Rattle.judgement.proofs.Walking.{first_legal, first_start, infeasible_over, infeasible_by}
+use Rattle.judgement.proofs.Standing.{opened_of, first_there}
+use Rattle.judgement.proofs.Walking.{first_start, infeasible_over, infeasible_by}
 use Rattle.judgement.proofs.walks.infeasible_rules.Goals as goal
 
 pub returns-in_err-known : goal.returns-in_err-known
 returns-in_err-known g c =
     let p = err_from_is_err_and c.from_residual.result c.from_residual.ensures.1 in
-    rw (p.1, p.2) (infeasible_over g.D.Domain.ops (table_machine c.args.tables.first.now) (kept_pair c.args.tables.counts c.args.pair.now) c.args.path.now c.in_err-known.ensures.starts)
+    rw (p.1, p.2) (infeasible_over g.D.Domain.ops (table_machine c.args.tables.first.words.now) (kept_pair c.args.tables.counts c.args.pair.now) c.args.path.now c.in_err-known.ensures.starts)
 
 pub check_infeasible-requires : goal.check_infeasible-requires
 check_infeasible-requires g c =
     let t = c.args.tables in
-    let P : ℕ → Type 0 = λ s. There t.first.now s in
+    let P : ℕ → Type 0 = λ s. There t.first.words.now s in
     record {
-      table = first_table t.first.now t.second.now t.counts c.requires.opened;
-      state = subst P (sym c.states_of-from.ensures.first) (first_there t.first.now t.second.now t.counts c.requires.opened c.args.pair.now c.requires.kept);
-      side = subst LegalSide (sym c.first_side-one.ensures) (first_legal t.counts c.requires.opened.fit);
+      state = subst P (sym c.states_of-from.ensures.first) (first_there t.first.words.now t.second.words.now t.counts (opened_of c.args.tables) c.args.pair.now c.requires.kept);
       room = omega (arith, c.in_ok-known.ensures.few, c.requires.short);
     }
 
@@ -29,12 +28,12 @@ pub returns : goal.returns
 returns g c =
     let o = g.D.Domain.ops in
     let counts = c.args.tables.counts in
-    let m = table_machine c.args.tables.first.now in
+    let m = table_machine c.args.tables.first.words.now in
     let p = kept_pair counts c.args.pair.now in
     let fs = forms c.start.new.slots in
     let known = c.in_ok-known.known in
-    let out = c.no_outputs-outputs.result in
-    let s : Started o = record { registers₁ = kept_seen fs 0 counts.one.registers; registers₂ = kept_seen fs 16 counts.two.registers; known = known_seen known.noted fs 0 known.count } in
+    let out = c.empty-outputs.result in
+    let s : Started o = record { registers₁ = kept_seen fs 0 counts.one.registers; registers₂ = kept_seen fs 16 counts.two.registers; known = known_seen known.items fs 0 known.count } in
     c.check_infeasible.ensures
-    ∙ ap (λ side. never_taken o m c.args.path.now (track_seen side c.states_of-from.result.first known out fs)) c.first_side-one.ensures
-    ∙ infeasible_by o m p c.args.path.now s c.in_ok-known.ensures.starts _ (first_start o counts p c.states_of-from.result.first out c.no_outputs-outputs.ensures fs known c.states_of-from.ensures.first)
+    ∙ ap (λ side. never_taken o m c.args.path.now (track_seen side c.states_of-from.result.first known out fs)) c.side_of-one.ensures
+    ∙ infeasible_by o m p c.args.path.now s c.in_ok-known.ensures.starts _ (first_start o counts p c.states_of-from.result.first out c.empty-outputs.ensures fs known c.states_of-from.ensures.first)

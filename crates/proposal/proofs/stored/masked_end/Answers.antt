@@ -12,7 +12,7 @@ returns-in_err-place c = λ n h.
     (let some : 0 < ones c.loop-i.left = omega arith in
     let short : c.loop-i.left < 2 ^ 32 = (c.loop-i.invariant.1 32 (omega arith)).0 in
     let inv = c.loop-i.invariant.1 n h in
-    let e = masked_more 6 c.args.limits.now c.args.words.now n c.loop-i.left c.loop-i.place (ones_positive c.loop-i.left some) short inv.0 in
+    let e = masked_more 6 c.args.reader.now.limits c.args.reader.now.words.now n c.loop-i.left c.loop-i.place (ones_positive c.loop-i.left some) short inv.0 in
     let f = c.in_err-place.ensures.reads 6 in search rules)
 
 pub loop-i-preserved : goal.loop-i-preserved
@@ -24,7 +24,7 @@ loop-i-preserved c =
       omega arith,
       λ n h.
           (let inv = c.loop-i.invariant.1 n h in
-          let e = masked_more 6 c.args.limits.now c.args.words.now n c.loop-i.left c.loop-i.place positive short inv.0 in
+          let e = masked_more 6 c.args.reader.now.limits c.args.reader.now.words.now n c.loop-i.left c.loop-i.place positive short inv.0 in
           let f = c.in_ok-place.ensures.reads 6 in (cleared_below c.loop-i.left (2 ^ n) inv.0, search rules)),
     )
 
@@ -32,4 +32,4 @@ pub returns : goal.returns
 returns c = λ n h.
     (let short : c.loop-i.left < 2 ^ 32 = (c.loop-i.invariant.1 32 (omega arith)).0 in
     let inv = c.loop-i.invariant.1 n h in
-    let e = masked_end 6 c.args.limits.now c.args.words.now n c.loop-i.left c.loop-i.place (no_ones c.loop-i.left short (omega arith)) in search rules)
+    let e = masked_end 6 c.args.reader.now.limits c.args.reader.now.words.now n c.loop-i.left c.loop-i.place (no_ones c.loop-i.left short (omega arith)) in search rules)

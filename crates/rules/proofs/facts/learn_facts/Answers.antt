@@ -10,7 +10,6 @@ loop-i-init g c = note_start g.D.Domain.ops c.args.words.now c.args.facts c.args
 pub work_out_fact-requires : goal.work_out_fact-requires
 work_out_fact-requires g c = record {
   readable = (facts_more c.args.words.now c.loop-i.at c.loop-i.i c.args.facts c.loop-i-test.true c.loop-i.invariant.readable).0;
-  symbols = tt;
 }
 
 pub returns-in_err-fact : goal.returns-in_err-fact

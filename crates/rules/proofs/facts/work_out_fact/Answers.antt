@@ -8,7 +8,7 @@ pub returns-in_err-work_out-2 : goal.returns-in_err-work_out-2
 returns-in_err-work_out-2 g c =
     let ws = c.args.words.now in
     let e = c.in_ok-work_out.ensures in
-    let v = second_over g.D.Domain.ops c.args.symbols c.requires.symbols ws c.args.place c.fact_at-fact.result (fact_cut ws c.args.place) c.fact_at-fact.ensures.place (forms c.args.slots.now) (forms c.work_out.new.slots) e.kept e.value c.in_err-work_out-2.ensures.value in
+    let v = second_over g.D.Domain.ops c.args.symbols ws c.args.place c.fact_at-fact.result (fact_cut ws c.args.place) c.fact_at-fact.ensures.place (forms c.args.slots.now) (forms c.work_out.new.slots) e.kept e.value c.in_err-work_out-2.ensures.value in
     let p = err_from_is_err_and c.from_residual-in_err-work_out-2.result c.from_residual-in_err-work_out-2.ensures.1 in
     rw p.1 (record { value = v; kept = tt })
 
@@ -24,6 +24,6 @@ returns g c =
     let f = c.in_ok-work_out-2.ensures in
     let is = c.fact_at-fact.ensures.place in
     record {
-      value = both o c.args.symbols c.requires.symbols ws at c.fact_at-fact.result (fact_cut ws at) is fs f₁ e.kept e.value f₂ f.kept f.value;
-      kept = (is, both_kept o c.args.symbols c.requires.symbols ws at c.fact_at-fact.result (fact_cut ws at) is fs f₁ e.kept e.value f₂ f.kept);
+      value = both o c.args.symbols ws at c.fact_at-fact.result (fact_cut ws at) is fs f₁ e.kept e.value f₂ f.kept f.value;
+      kept = (is, both_kept o c.args.symbols ws at c.fact_at-fact.result (fact_cut ws at) is fs f₁ e.kept e.value f₂ f.kept);
     }

@@ -14,10 +14,10 @@ returns g c =
     let o = g.D.Domain.ops in
     let fs = forms c.args.slots.now in
     let fs' = forms c.evaluate_into.new.slots in
-    let e = map item_of c.args.words.now in
+    let e = map item_of c.args.expression.words.now in
     let long = length_slots c.args.slots.now.lens.of c.args.slots.now.row.now ∙ c.args.slots.now.count in
     let h = c.evaluate_into.ensures.forms
     ∙ ap (λ l. give c.args.to (meaning (reading o l (named fs)) e) (take 154 fs)) c.proposal_leaves.ensures
-    ∙ ap (λ m. give c.args.to m (take 154 fs)) (proposal_reads o fs c.args.symbols e c.requires.symbols) in
+    ∙ ap (λ m. give c.args.to m (take 154 fs)) (proposal_reads o fs c.args.symbols e) in
     let w = worked fs fs' c.args.to c.requires.slot long c.evaluate_into.result _ h in
     record { value = w.0; kept = w.1 }

@@ -1,4 +1,4 @@
-use Rattle.std.proofs.Common.{refl, ◌∙◌}
+use Rattle.std.proofs.Common.{◌∙◌}
 use Rattle.workspace.specs.Views.{forms}
 use Rattle.workspace.proofs.Laws.{length_slots}
 use Rattle.walk.proofs.Learned.{learned, learned_kept}
@@ -13,7 +13,7 @@ returns g c =
     let wide = length_slots c.args.slots.now.lens.of c.args.slots.now.row.now ∙ c.args.slots.now.count in
     let wide₁ = length_slots c.copy.new.self.lens.of c.copy.new.self.row.now ∙ c.copy.new.self.count in
     record {
-      known = learned k.noted fs f₁ f₂ k.count c.args.test k.size wide wide₁ c.requires c.copy.ensures.forms c.copy-2.ensures.forms;
-      count = refl;
-      kept = learned_kept k.noted fs f₁ f₂ k.count c.args.test k.size wide wide₁ c.requires c.copy.ensures.forms c.copy-2.ensures.forms;
+      known = rw (c.push.ensures.items, c.push.ensures.count) (learned k.items fs f₁ f₂ k.count c.args.test k.size wide wide₁ c.requires c.copy.ensures.forms c.copy-2.ensures.forms);
+      count = c.push.ensures.count;
+      kept = learned_kept k.items fs f₁ f₂ k.count c.args.test k.size wide wide₁ c.requires c.copy.ensures.forms c.copy-2.ensures.forms;
     }

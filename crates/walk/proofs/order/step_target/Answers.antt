@@ -9,5 +9,5 @@ pub returns : goal.returns
 returns c =
     record {
       target = c.target_of.ensures ∙ ap (λ x. allowed_target x c.args.turn) c.row_there.ensures.row;
-      there = target_there c.args.words.now (row_of (ahead c.row_there.result)) c.args.turn c.target_of.result c.row_there.ensures.targets c.target_of.ensures;
+      there = target_there c.args.table.words.now (row_of (ahead c.row_there.result)) c.args.turn c.target_of.result c.row_there.ensures.targets c.target_of.ensures;
     }

@@ -8,8 +8,8 @@ returns g c =
     let w = c.in_ok-work_out.ensures in
     let p = c.args.outputs.now in
     let room : p.count < 16 = omega arith in
-    let before = c.requires.side.before in
+    let before = c.args.side.before in
     record {
-      appended = appends_more p.ports (forms c.args.slots.now) (forms c.work_out.new.slots) c.args.side.outputs p.count c.args.port _ p.size room (omega arith) w.value w.kept;
+      appended = rw (c.push.ensures.items, c.push.ensures.count) (appends_more p.items (forms c.args.slots.now) (forms c.work_out.new.slots) c.args.side.outputs p.count c.args.port _ p.size room (omega arith) w.value w.kept);
       kept = (room, w.kept);
     }

@@ -4,5 +4,5 @@ use Rattle.walk.proofs.path.follow.Given as goal
 
 abbrev pub invariant-loop-turn : goal.invariant-loop-turn
 invariant-loop-turn g l =
-    Following g.D.Domain.ops l.side l.words l.path l.start l.initial.known l.initial.outputs (forms l.initial.slots)
+    Following g.D.Domain.ops l.walker.side l.walker.table.words.now l.path l.start l.initial.known l.initial.outputs (forms l.initial.slots)
     l.turn-index l.state l.known l.outputs (forms l.slots)

@@ -4,5 +4,5 @@ use Rattle.walk.proofs.path.follow_settled.Given as goal
 
 abbrev pub invariant-loop-index : goal.invariant-loop-index
 invariant-loop-index g l =
-    FollowingSettled g.D.Domain.ops l.side l.words l.path l.start l.known l.initial.outputs (forms l.initial.slots)
+    FollowingSettled g.D.Domain.ops l.walker.side l.walker.table.words.now l.path l.start l.known l.initial.outputs (forms l.initial.slots)
     l.index l.state l.outputs (forms l.slots)

@@ -1,4 +1,4 @@
-use Rattle.std.proofs.Common.{◌+◌, refl, arith}
+use Rattle.std.proofs.Common.{◌+◌, arith}
 use Rattle.workspace.specs.Views.{forms}
 use Rattle.walk.proofs.Waiting.{waits_more, kept_named}
 use Rattle.walk.proofs.pending.hold_store.Goals as goal
@@ -10,7 +10,7 @@ returns g c =
     let fs = forms c.args.slots.now in
     let fs' = forms c.work_out.new.slots in
     record {
-      held = waits_more p.targets fs fs' p.count c.args.register _ p.size c.requires.room w.value w.kept;
-      count = refl;
+      held = λ registers. rw (c.push.ensures.items, c.push.ensures.count) (waits_more p.items fs fs' p.count c.args.register _ p.size c.requires.room w.value w.kept registers);
+      count = c.push.ensures.count;
       kept = kept_named fs fs' (144 + p.count) (omega arith) w.kept;
     }

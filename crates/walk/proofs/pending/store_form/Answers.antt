@@ -9,7 +9,7 @@ pub returns-then-register-registers : goal.returns-then-register-registers
 returns-then-register-registers g c =
     let fs = forms c.args.slots.now in
     let long = length_slots c.args.slots.now.lens.of c.args.slots.now.row.now ∙ c.args.slots.now.count in
-    let s = store_there c.args.registers c.requires.registers fs c.args.register (get_or fs c.args.from []) long (omega arith) in
+    let s = store_there c.args.registers fs c.args.register (get_or fs c.args.from []) long (omega arith) in
     let e = c.copy.ensures.forms in
     record {
       stored = ap (λ f. kept_seen f c.args.registers.first c.args.registers.count) e ∙ s.0;
@@ -20,6 +20,6 @@ pub returns-else-register-registers : goal.returns-else-register-registers
 returns-else-register-registers g c =
     let fs = forms c.args.slots.now in
     record {
-      stored = store_nowhere c.args.registers c.requires.registers fs c.args.register (get_or fs c.args.from []) (omega arith);
+      stored = store_nowhere c.args.registers fs c.args.register (get_or fs c.args.from []) (omega arith);
       kept = λ i h. refl;
     }

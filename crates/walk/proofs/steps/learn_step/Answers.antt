@@ -11,7 +11,7 @@ use Rattle.walk.proofs.steps.learn_step.Goals as goal
 pub returns : goal.returns
 returns g c =
     let o = g.D.Domain.ops in
-    let side = c.args.side in
+    let side = c.args.walker.side in
     let row = row_of (ahead c.row_there-row.result) in
     let fs = forms c.args.slots.now in
     let f₁ = forms c.put_test.new.slots in
@@ -27,9 +27,9 @@ returns g c =
     let out' = c.take_transition.new.outputs in
     let test = c.in_ok-test.test in
     record {
-      steps = learned_step o side c.requires.side row c.args.turn c.args.state k k' out out' test fs f₁ f₂ f₃ e.tests e.kept l.known l.kept c.take_transition.result t e.goes a.target a.kept a.acted
+      steps = learned_step o side row c.args.turn c.args.state k k' out out' test fs f₁ f₂ f₃ e.tests e.kept l.known l.kept c.take_transition.result t e.goes a.target a.kept a.acted
           ∙ ap (λ x. step o (λ tests. good tt) x c.args.turn (track_seen side c.args.state k out fs)) c.row_there-row.ensures.row;
-      state = arrives c.args.words.now row c.args.turn t c.take_transition.result c.row_there-row.ensures.targets e.goes a.target;
+      state = arrives c.args.walker.table.words.now row c.args.turn t c.take_transition.result c.row_there-row.ensures.targets e.goes a.target;
       count = one_put k k' test c.args.turn f₁ c.take_transition.result l.count;
-      kept = other_side o side c.requires.side row c.args.turn c.args.state k k' out out' test fs f₁ f₂ f₃ e.tests e.kept l.known l.kept c.take_transition.result t e.goes a.target a.kept a.acted c.take_transition.result a.kept;
+      kept = other_side o side row c.args.turn c.args.state k k' out out' test fs f₁ f₂ f₃ e.tests e.kept l.known l.kept c.take_transition.result t e.goes a.target a.kept a.acted c.take_transition.result a.kept;
     }

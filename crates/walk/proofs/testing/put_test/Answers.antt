@@ -18,7 +18,7 @@ returns-in_err-work_out-2 g c =
     let fs = forms c.args.slots.now in
     let e = c.in_ok-work_out.ensures in
     let f = c.in_err-work_out-2.ensures in
-    let v = second_over o c.args.registers c.requires.registers t.test (map item_of t.left.now) (map item_of t.right.now) (transition_of (ahead c.next_part.new.self)) (transition_of (behind (ahead c.next_part.new.self))) c.args.turn fs (forms c.work_out.new.slots) e.kept e.value f.value in
+    let v = second_over o c.args.registers t.test (map item_of t.left.now) (map item_of t.right.now) (transition_of (ahead c.next_part.new.self)) (transition_of (behind (ahead c.next_part.new.self))) c.args.turn fs (forms c.work_out.new.slots) e.kept e.value f.value in
     let p = err_from_is_err_and c.from_residual-in_err-work_out-2.result c.from_residual-in_err-work_out-2.ensures.1 in
     rw p.1 (record { tests = v ∙ ap (λ a. tested o (row_of a) c.args.turn (kept_seen fs c.args.registers.first c.args.registers.count)) (sym is); goes = tt; kept = tt })
 
@@ -37,7 +37,7 @@ returns g c =
     let y = transition_of (ahead c.next_part.new.self) in
     let n = transition_of (behind (ahead c.next_part.new.self)) in
     record {
-      tests = both o c.args.registers c.requires.registers t.test l r y n c.args.turn fs f₁ e.kept e.value f₂ f.kept f.value ∙ ap (λ a. tested o (row_of a) c.args.turn (kept_seen fs c.args.registers.first c.args.registers.count)) (sym is);
+      tests = both o c.args.registers t.test l r y n c.args.turn fs f₁ e.kept e.value f₂ f.kept f.value ∙ ap (λ a. tested o (row_of a) c.args.turn (kept_seen fs c.args.registers.first c.args.registers.count)) (sym is);
       goes = c.choose.ensures ∙ ap (λ a. chosen (row_of a) c.args.turn) (sym is);
-      kept = both_kept o c.args.registers c.requires.registers t.test l r y n c.args.turn fs f₁ e.kept e.value f₂ f.kept;
+      kept = both_kept o c.args.registers t.test l r y n c.args.turn fs f₁ e.kept e.value f₂ f.kept;
     }

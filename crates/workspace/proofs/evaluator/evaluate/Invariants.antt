@@ -6,4 +6,4 @@ use Rattle.workspace.proofs.evaluator.evaluate.Given as goal
 abbrev pub invariant-loop-w : goal.invariant-loop-w
 invariant-loop-w g l =
     let base = forms l.initial.slots in
-    Evaluating (reading g.D.Domain.ops l.leaves (named base)) base (forms l.slots) l.words l.w-index l.depth
+    Evaluating (reading g.D.Domain.ops l.leaves (named base)) base (forms l.slots) l.expression.words.now l.w-index l.depth

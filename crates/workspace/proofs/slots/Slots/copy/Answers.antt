@@ -1,5 +1,10 @@
-use Rattle.std.proofs.Common.{arith}
+use Rattle.std.proofs.Common.{set, ap, ◌∙◌, arith}
+use Rattle.workspace.specs.Slots.{slots}
+use Rattle.workspace.proofs.Steps.{form_at}
+use Rattle.workspace.proofs.Laws.{ready}
 use Rattle.workspace.proofs.slots.Slots.copy.Goals as goal
 
-pub copy_slot-requires : goal.copy_slot-requires
-copy_slot-requires g c = record { ready = record { count = c.args.self.now.count; few = c.args.self.now.few; room = c.args.self.now.room }; slots = (omega arith, omega arith) }
+pub returns : goal.returns
+returns g c =
+    let e = form_at c.args.self.now.lens.of c.args.self.now.row.now c.args.«from» c.span-s.result (ready c.args.self.now) (omega arith) c.span-s.ensures in
+    record { forms = c.place.ensures.forms ∙ ap (set (slots c.args.self.now.lens.of c.args.self.now.row.now) c.args.to) e }

@@ -1,5 +1,41 @@
-use Rattle.std.proofs.Common.{arith}
+use Rattle.std.proofs.Common.{[], get_or, sym, ap, ◌∙◌, arith}
+use Rattle.forms.specs.Rows.{part}
+use Rattle.forms.specs.Forms as Forms
+use Rattle.forms.proofs.Scaling.{length_sum}
+use Rattle.forms.proofs.Limits.{sum_is}
+use Rattle.workspace.specs.Slots.{slots, give}
+use Rattle.workspace.proofs.Steps.{form_at, settled, short, made_within}
+use Rattle.workspace.proofs.Laws.{ready}
 use Rattle.workspace.proofs.slots.Slots.sum.Goals as goal
 
-pub sum-requires : goal.sum-requires
-sum-requires g c = record { ready = record { count = c.args.self.now.count; few = c.args.self.now.few; room = c.args.self.now.room }; slots = (omega arith, (omega arith, omega arith)) }
+pub settle-requires : goal.settle-requires
+settle-requires g c =
+    let o = g.D.Domain.ops in
+    let ns = c.args.self.now.lens.of in
+    let xs = c.args.self.now.row.now in
+    let p = c.merge-s.ensures in
+    let n = length_sum o (part c.span-p.result xs) (part c.span-q.result xs) in
+    let a = short ns xs c.args.a c.span-p.result (ready c.args.self.now) c.span-p.ensures in
+    let b = short ns xs c.args.b c.span-q.result (ready c.args.self.now) c.span-q.ensures in
+    let f = p.from in
+    record {
+      slot = omega arith;
+      s = made_within ns xs _ _ _ (ready c.args.self.now) p (omega arith);
+      behind = omega arith;
+    }
+
+pub returns : goal.returns
+returns g c =
+    let o = g.D.Domain.ops in
+    let ns = c.args.self.now.lens.of in
+    let xs = c.args.self.now.row.now in
+    let a = form_at ns xs c.args.a c.span-p.result (ready c.args.self.now) (omega arith) c.span-p.ensures in
+    let b = form_at ns xs c.args.b c.span-q.result (ready c.args.self.now) (omega arith) c.span-q.ensures in
+    let F = slots ns xs in
+    record {
+      forms =
+          settled ns xs c.merge-s.new.row _ c.args.to c.merge-s.result _ (ready c.args.self.now) c.merge-s.ensures.kept c.merge-s.ensures.is c.settle.ensures.forms
+          ∙ ap (λ p. give c.args.to (Forms.limit (Forms.added o p (part c.span-q.result xs))) F) a
+          ∙ ap (λ q. give c.args.to (Forms.limit (Forms.added o (get_or F c.args.a []) q)) F) b
+          ∙ ap (λ r. give c.args.to r F) (sym (sum_is o (get_or F c.args.a []) (get_or F c.args.b [])));
+    }

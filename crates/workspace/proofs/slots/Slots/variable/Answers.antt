@@ -1,5 +1,13 @@
-use Rattle.std.proofs.Common.{arith}
+use Rattle.std.proofs.Common.{[], set, sym, ap, ◌∙◌}
+use Rattle.forms.specs.Forms.{unless_zero}
+use Rattle.forms.proofs.Limits.{variable_is}
+use Rattle.workspace.specs.Slots.{slots}
 use Rattle.workspace.proofs.slots.Slots.variable.Goals as goal
 
-pub variable-requires : goal.variable-requires
-variable-requires g c = record { ready = record { count = c.args.self.now.count; few = c.args.self.now.few; room = c.args.self.now.room }; slot = omega arith }
+pub returns : goal.returns
+returns g c =
+    let o = g.D.Domain.ops in
+    let F = slots c.args.self.now.lens.of c.args.self.now.row.now in
+    record {
+      forms = c.single.ensures.forms ∙ ap (set F c.args.to) ((λ i. unless_zero o (record { coefficient = c.one-coefficient.ensures i; monomial = c.of-monomial.ensures i }) []) ∙ sym (variable_is o c.args.code));
+    }

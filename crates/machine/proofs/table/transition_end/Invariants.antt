@@ -1,9 +1,0 @@
-use Rattle.std.proofs.Common.{◌≡◌, ◌≤◌, length}
-use Rattle.machine.specs.Reading.{transition, fresh}
-use Rattle.machine.proofs.table.transition_end.Given as goal
-
-abbrev pub invariant-actions : goal.invariant-actions
-invariant-actions l = (l.from ≤ l.p) × (l.p ≤ length l.words) × (transition l.limits l.words l.left l.stored l.p ≡ transition l.limits l.words 8 fresh l.from)
-
-abbrev pub decreases-actions : goal.decreases-actions
-decreases-actions l = l.left
