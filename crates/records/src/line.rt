@@ -1,5 +1,5 @@
 // A line that is printed.
-#[derive(Clone, Copy)]
+#[derive(Clone, Copy, Debug, PartialEq, Eq)]
 pub enum Line {
     Opened,
     Pair(u32),
