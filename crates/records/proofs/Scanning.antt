@@ -1,11 +1,11 @@
--- Bytes and words read from the front.
+-- The words that bytes make up.
 use Rattle.std.proofs.Common.{◌≡◌, ℕ, zero, suc, ◌*◌, map, w32, ◌/◌, ◌%◌, ◌<◌, List, [], ◌∷◌, length, Some, None, sym, refl, ap, ◌∙◌, arith}
 use Rattle.std.specs.Int.{from_be_bytes}
 use Rattle.std.specs.Simd.{first_chunks}
 use Rattle.records.specs.Files.{and_then, word, words_of}
 
--- A file's bytes, four at a time.
-pub words_whole : (n : ℕ) (bytes : List ℕ) → length bytes ≡ 4 * n → words_of bytes ≡ Some (map (from_be_bytes w32) (first_chunks 4 n bytes))
+-- four bytes at a time
+words_whole : (n : ℕ) (bytes : List ℕ) → length bytes ≡ 4 * n → words_of bytes ≡ Some (map (from_be_bytes w32) (first_chunks 4 n bytes))
 words_whole zero [] e = refl
 words_whole zero (a ∷ bytes) e = absurd (omega arith)
 words_whole (suc n) [] e = absurd (omega arith)

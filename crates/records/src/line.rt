@@ -4,6 +4,7 @@ pub enum Line {
     Opened,
     Pair(u32),
     Claim(u32),
+    // By its number in docs/REFUSALS.md: the faults are enums of crates that know no lines, and each gives its number.
     Refused {
         number: u32,
         machine: u32,

@@ -18,10 +18,12 @@ fn words_of(heap: Global, bytes: &[u8]) -> Result<Vec<u32>, FileFault>
     if !rest.is_empty() {
         return Err(FileFault::BadFile);
     }
-    Ok(words
-        .iter()
-        .map(|word| u32::from_be_bytes(*word))
-        .collect(heap)?)
+    Ok(
+        words
+            .iter()
+            .map(|word| u32::from_be_bytes(*word))
+            .collect(heap)?,
+    )
 }
 
 // The words that a record counts, and what stands behind them.
