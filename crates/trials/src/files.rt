@@ -1,6 +1,4 @@
 // Files that the layout allows, and files of every kind that it does not.
-use records::file::FileFault;
-use records::line::Line;
 use records::reading;
 use std::io;
 
@@ -12,32 +10,23 @@ fn print_file(rt: &HostRuntime, name: &str, bytes: &[u8]) -> io::Result<()> {
             let parts = file.parts.len();
             println!(rt; "{name}: tables of {first} and {second} words, {parts} parts")
         }
-        Err(FileFault::BadFile) => {
-            let line = Line::BadFile;
-            println!(rt; "{name}: {line}")
-        }
-        Err(FileFault::NoMemory) => println!(rt; "{name}: no memory"),
+        Err(fault) => println!(rt; "{name}: {fault}"),
     }
 }
 
 fn print_words(rt: &HostRuntime, name: &str, words: &[u32]) -> io::Result<()> {
-    let mut bytes = Vec::new(rt.alloc());
-    for word in words {
-        bytes.extend_from_slice(&word.to_be_bytes())?;
-    }
+    let bytes: Vec<u8> = words
+        .iter()
+        .flat_map(|word| word.to_be_bytes())
+        .collect(rt.alloc())?;
     print_file(rt, name, &bytes)
 }
 
 // A start, two tables and a claim of so many words.
 fn print_long(rt: &HostRuntime, name: &str, claim: u32) -> io::Result<()> {
-    let mut bytes = Vec::new(rt.alloc());
-    for word in [0xf0000000, 0xf1000000, 0xf2000000, 0xf4000000 | claim] {
-        bytes.extend_from_slice(&u32::to_be_bytes(word))?;
-    }
-    for _ in 0..claim {
-        bytes.extend_from_slice(&[0, 0, 0, 0])?;
-    }
-    print_file(rt, name, &bytes)
+    let mut words = vec![in rt.alloc(); 0xf0000000, 0xf1000000, 0xf2000000, 0xf4000000 | claim]?;
+    words.resize(4 + claim as usize, 0)?;
+    print_words(rt, name, &words)
 }
 
 fn good(rt: &HostRuntime) -> io::Result<()> {
