@@ -4,7 +4,7 @@ ghost use Rattle.walk.specs.Taking.{IsTable, There};
 ghost use Rattle.proposal.specs.Claims.{turns_of};
 ghost use Rattle.coverage.specs.Trees.{Tidy, Finds, Lacks};
 
-use crate::matching::any_match;
+use crate::matching::{Along, any_match};
 use proposal::claim::{Claim, Path};
 use walk::order::step_target;
 
@@ -45,10 +45,10 @@ fn first_unmatched(
     if left == 0 {
         return Some(path);
     }
-    if any_match(claims, pair, path, false) {
+    if any_match(claims, pair, path, Along::Itself) {
         return None;
     }
-    if !any_match(claims, pair, path, true) {
+    if !any_match(claims, pair, path, Along::Longer) {
         return Some(path);
     }
     let yes = step_target(words, state, true)?;
