@@ -28,6 +28,22 @@ const SECOND: [u32; 31] = [
     0x50000000, 0x70000000, 0x20000002, 0x10000001, 0x50000000, 0x70000002, 0x90000001,
 ];
 
+const FIRST_SIDE: Side = Side {
+    registers: Group {
+        first: FIRST_REGISTERS,
+        count: 3,
+    },
+    outputs: FIRST_OUTPUTS,
+};
+
+const SECOND_SIDE: Side = Side {
+    registers: Group {
+        first: SECOND_REGISTERS,
+        count: 3,
+    },
+    outputs: SECOND_OUTPUTS,
+};
+
 // A path of one step, from a state.
 #[derive(Clone, Copy)]
 struct Way {
@@ -58,8 +74,8 @@ fn print_form(rt: &HostRuntime, slots: &Slots<'_, Word>, what: &str, k: usize) -
 {
     println!(rt; "  {what} {k}")?;
     let count = slots.lens.of[k] as usize;
-    for i in 0..count {
-        print_term(rt, slots.row[16 * k + i])?;
+    for term in &slots.row[16 * k..16 * k + count] {
+        print_term(rt, *term)?;
     }
     Ok(())
 }
@@ -100,13 +116,6 @@ fn print_second(
         return println!(rt; "  second: not walked");
     }
     begin(slots, SECOND_REGISTERS, way.state);
-    let side = Side {
-        registers: Group {
-            first: SECOND_REGISTERS,
-            count: 3,
-        },
-        outputs: SECOND_OUTPUTS,
-    };
     let mut outputs = Outputs {
         ports: [0; 16],
         count: 0,
@@ -114,7 +123,7 @@ fn print_second(
     match follow_settled(
         slots,
         &SECOND,
-        side,
+        SECOND_SIDE,
         way.state,
         &[way.turn],
         known,
@@ -138,13 +147,6 @@ fn print_first(rt: &HostRuntime, row: &mut [Term<Word>], way: Way) -> io::Result
     }
     let mut slots = Slots::empty(row);
     begin(&mut slots, FIRST_REGISTERS, start);
-    let side = Side {
-        registers: Group {
-            first: FIRST_REGISTERS,
-            count: 3,
-        },
-        outputs: FIRST_OUTPUTS,
-    };
     let mut known = KnownTests {
         noted: [Noted {
             test: Test::Same,
@@ -159,7 +161,7 @@ fn print_first(rt: &HostRuntime, row: &mut [Term<Word>], way: Way) -> io::Result
     match follow(
         &mut slots,
         &COUNTER,
-        side,
+        FIRST_SIDE,
         start,
         &[turn],
         &mut known,
