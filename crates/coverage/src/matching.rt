@@ -12,7 +12,7 @@ pub enum Along {
     Longer,
 }
 
-// The start pair of a claim.
+// The start pair of a claim. A method would need a trait here, since `Claim` is a type of `proposal`.
 fn start_of(claim: Claim) -> u32
     ensures { result ≡ start_of claim }
 {

@@ -79,7 +79,7 @@ fn next_of(heap: Global, words: &[u32]) -> Result<Next<'_>, FileFault>
     })
 }
 
-// The pairs and claims that the words consist of.
+// The pairs and claims that the words consist of. No iterator: each takes memory, and its words tell where the next begins.
 fn parts_of(heap: Global, words: &[u32]) -> Result<Vec<Part>, FileFault>
     ensures { Reads seen_parts result (parts_of words.now) }
 {

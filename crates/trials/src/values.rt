@@ -21,6 +21,7 @@ fn print_words(rt: &HostRuntime, a: u32, b: u32) -> io::Result<()> {
     )
 }
 
+// Not one function with the words: a byte has two digits, and its products stand apart.
 fn print_bytes(rt: &HostRuntime, a: u8, b: u8) -> io::Result<()> {
     let x = Byte::of(a);
     let y = Byte::of(b);
