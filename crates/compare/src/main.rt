@@ -1,29 +1,18 @@
 // Reads a file of a comparison from standard input and prints a line for each of its records: the counts or the refusal of a table.
 #![tactic(auto)]
 
-use anyhow::anyhow;
 use machine::table::read_table;
-use records::file::{File, FileFault, Part, Values};
+use records::file::{File, FileFault, Part};
 use records::line::Line;
 use records::reading;
 use std::io;
 use std::io::Read;
 
-// A longer file is a bad one.
-const LONGEST: usize = 65536;
-
 // Standard input to its end, or until it is longer than any file.
 fn input(rt: &HostRuntime) -> io::Result<Vec<u8>> {
     let mut bytes = Vec::new(rt.alloc());
-    let mut stdin = rt.stdin();
-    let mut buffer = [0u8; 4096];
-    for _ in 0..=LONGEST {
-        let n = stdin.read(&mut buffer)?;
-        bytes.extend_from_slice(&buffer[0..n])?;
-        if n == 0 || bytes.len() > LONGEST {
-            break;
-        }
-    }
+    let limit = reading::LONGEST as u64 + 1;
+    rt.stdin().take(limit).read_to_end(&mut bytes)?;
     Ok(bytes)
 }
 
@@ -31,9 +20,7 @@ fn input(rt: &HostRuntime) -> io::Result<Vec<u8>> {
 fn print_table(rt: &HostRuntime, number: u32, words: &[u32]) -> io::Result<()> {
     match read_table(words) {
         Ok(head) => {
-            let states = head.states;
-            let registers = head.registers;
-            let inputs = head.inputs;
+            let (states, registers, inputs) = (head.states, head.registers, head.inputs);
             println!(rt; "table {number}: {states} states, {registers} registers, {inputs} inputs")
         }
         Err(fault) => rt.println(Line::Refused {
@@ -46,24 +33,17 @@ fn print_table(rt: &HostRuntime, number: u32, words: &[u32]) -> io::Result<()> {
 
 // A line for each record.
 fn print_records(rt: &HostRuntime, file: &File) -> io::Result<()> {
-    let shared = file.shared;
-    match file.values {
-        Values::Words => println!(rt; "start: words, {shared} shared")?,
-        Values::Bytes => println!(rt; "start: bytes, {shared} shared")?,
-    }
+    let (values, shared) = (file.values, file.shared);
+    println!(rt; "start: {values}, {shared} shared")?;
     print_table(rt, 1, &file.first)?;
     print_table(rt, 2, &file.second)?;
     for part in &file.parts {
-        match part {
-            Part::Pair(words) => {
-                let n = words.len();
-                println!(rt; "pair: {n} words")?;
-            }
-            Part::Claim(words) => {
-                let n = words.len();
-                println!(rt; "claim: {n} words")?;
-            }
-        }
+        let (name, words) = match part {
+            Part::Pair(words) => ("pair", words),
+            Part::Claim(words) => ("claim", words),
+        };
+        let n = words.len();
+        println!(rt; "{name}: {n} words")?;
     }
     Ok(())
 }
@@ -73,7 +53,7 @@ fn run(rt: &HostRuntime) -> anyhow::Result<()> {
     match reading::read(rt.alloc(), &bytes) {
         Ok(file) => print_records(rt, &file)?,
         Err(FileFault::BadFile) => rt.println(Line::BadFile)?,
-        Err(FileFault::NoMemory) => return Err(anyhow!("no memory")),
+        Err(fault) => return Err(fault.into()),
     }
     Ok(())
 }

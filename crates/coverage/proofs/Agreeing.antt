@@ -1,9 +1,10 @@
 -- Paths compared turn by turn.
-use Rattle.std.proofs.Common.{◌≡◌, ℕ, zero, suc, ◌+◌, ◌-◌, ◌/◌, ◌%◌, ◌<◌, ◌≤◌, Bool, true, false, cond, not, ◌&&◌, ◌||◌, eqb, ltb, List, map, length, get_or, drop, sym, refl, ap, ◌∙◌, ap₂, ⊎_elim, arith}
+use Rattle.std.proofs.Common.{◌≡◌, ℕ, zero, suc, ◌+◌, ◌*◌, ◌^◌, ◌/◌, ◌%◌, ◌<◌, Bool, true, false, cond, not, ◌&&◌, ◌||◌, eqb, ltb, List, [], ◌∷◌, map, sym, refl, ap, ◌∙◌, ap₂, ⊎_elim, arith}
 use mathlib.Core.Bool.{beq}
 use lib.Dec.{eqb-zero-suc, eqb-suc-zero, eqb-suc-suc}
 use Rattle.std.proofs.lemmas.Bool.{eq-eqb, ne_eqb, lt-ltb, le-ltb, cases_eq, cases_lt}
-use Rattle.std.proofs.lemmas.List.{at_drop_more, at_drop_all}
+use Rattle.std.proofs.lemmas.Nat.{mod-pow-add}
+use Rattle.std.specs.List.{list_any}
 use Rattle.walk.specs.Settled.{any}
 use Rattle.proposal.specs.Proposal.{Claim}
 use Rattle.proposal.specs.declared.claim.Path.{Path}
@@ -28,29 +29,26 @@ bit_differs a b la lb ne =
     (λ z. ap₂ beq (ne_eqb a 1 z) (eq-eqb b 1 (omega arith)))
     (cases_eq a 1)
 
--- the turns that are left agree as all do
-module _ (n v w : ℕ) where
-  pub Agreeing : (i left right : ℕ) → Type 0
-  Agreeing i left right = same_turns (n - i) left right ≡ same_turns n v w
+-- One turn and those behind it, as one number.
+and_eqb : (a b c d : ℕ) → a < 2 → b < 2 → (beq (eqb a 1) (eqb b 1) && eqb c d) ≡ eqb (c * 2 + a) (d * 2 + b)
+and_eqb a b c d la lb =
+    ⊎_elim
+    (λ e. ap (λ x. x && eqb c d) (bit_same a b e) ∙ ⊎_elim
+    (λ f. eq-eqb c d f ∙ sym (eq-eqb (c * 2 + a) (d * 2 + b) (omega arith)))
+    (λ f. ne_eqb c d f ∙ sym (ne_eqb (c * 2 + a) (d * 2 + b) (λ g. f (omega arith))))
+    (cases_eq c d))
+    (λ z. ap (λ x. x && eqb c d) (bit_differs a b la lb z) ∙ sym (ne_eqb (c * 2 + a) (d * 2 + b) (λ g. z (omega arith))))
+    (cases_eq a b)
 
-  pub agree_start : Agreeing 0 v w
-  unfolding Agreeing
-  agree_start = let e : n - 0 ≡ n = omega arith in ap (λ k. same_turns k v w) e
-
-  one_turn : (i left right : ℕ) → i < n → same_turns (n - i) left right ≡ (beq (eqb (left % 2) 1) (eqb (right % 2) 1) && same_turns (n - (i + 1)) (left / 2) (right / 2))
-  one_turn i left right h = let e : n - i ≡ suc (n - (i + 1)) = omega arith in ap (λ k. same_turns k left right) e
-
-  pub agree_more : (i left right : ℕ) → i < n → left % 2 ≡ right % 2 → Agreeing i left right → Agreeing (i + 1) (left / 2) (right / 2)
-  unfolding Agreeing
-  agree_more i left right h e inv = sym (one_turn i left right h ∙ ap (λ b. b && same_turns (n - (i + 1)) (left / 2) (right / 2)) (bit_same (left % 2) (right % 2) e)) ∙ inv
-
-  pub agree_not : (i left right : ℕ) → i < n → (left % 2 ≡ right % 2 → ⊥) → Agreeing i left right → false ≡ same_turns n v w
-  unfolding Agreeing
-  agree_not i left right h e inv = sym (one_turn i left right h ∙ ap (λ b. b && same_turns (n - (i + 1)) (left / 2) (right / 2)) (bit_differs (left % 2) (right % 2) (omega arith) (omega arith) e)) ∙ inv
-
-  pub agree_all : (i left right : ℕ) → n ≤ i → Agreeing i left right → true ≡ same_turns n v w
-  unfolding Agreeing
-  agree_all i left right h inv = let e : n - i ≡ 0 = omega arith in sym (ap (λ k. same_turns k left right) e) ∙ inv
+-- the first n turns as a remainder
+pub turns_below : (n v w : ℕ) → same_turns n v w ≡ eqb (v % 2 ^ n) (w % 2 ^ n)
+turns_below zero v w = sym (eq-eqb (v % 1) (w % 1) (omega arith))
+turns_below (suc n) v w =
+    let s : suc n ≡ n + 1 = omega arith in
+    let low : (x : ℕ) → x % 2 ^ suc n ≡ (x / 2 % 2 ^ n) * 2 + x % 2 = λ x. ap (λ k. x % 2 ^ k) s ∙ mod-pow-add x n 1 in
+    ap (λ b. beq (eqb (v % 2) 1) (eqb (w % 2) 1) && b) (turns_below n (v / 2) (w / 2))
+    ∙ and_eqb (v % 2) (w % 2) (v / 2 % 2 ^ n) (w / 2 % 2 ^ n) (omega arith) (omega arith)
+    ∙ sym (ap₂ eqb (low v) (low w))
 
 -- Paths as lists of turns.
 beq_not : (a b : Bool) → beq (not a) (not b) ≡ beq a b
@@ -92,16 +90,7 @@ as_matches true p path (variants.Infeasible start first) = ap (λ b. eqb start p
 as_matches false p path (variants.Live start end first second) = ap (λ b. eqb start p && b) (same_path path.length first.length path.turns first.turns)
 as_matches false p path (variants.Infeasible start first) = ap (λ b. eqb start p && b) (same_path path.length first.length path.turns first.turns)
 
--- the next claim, and those behind it
-module _ (f : Claim → Bool) (claims : List declared.Claim) (i : ℕ) (d : declared.Claim) (lt : i < length claims) where
-  match_more : any f (map claim_of (drop i claims)) ≡ (f (claim_of (get_or claims i d)) || any f (map claim_of (drop (i + 1) claims)))
-  match_more = at_drop_more (λ cs. any f (map claim_of cs)) claims i d lt
-
-  pub match_here : true ≡ f (claim_of (get_or claims i d)) → true ≡ any f (map claim_of (drop i claims))
-  match_here e = sym (match_more ∙ ap (λ b. b || any f (map claim_of (drop (i + 1) claims))) (sym e))
-
-  pub match_on : false ≡ f (claim_of (get_or claims i d)) → any f (map claim_of (drop (i + 1) claims)) ≡ any f (map claim_of (drop i claims))
-  match_on e = sym (match_more ∙ ap (λ b. b || any f (map claim_of (drop (i + 1) claims))) (sym e))
-
-pub match_none : (f : Claim → Bool) (claims : List declared.Claim) (i : ℕ) → length claims ≤ i → false ≡ any f (map claim_of (drop i claims))
-match_none f claims i h = sym (at_drop_all (λ cs. any f (map claim_of cs)) claims i h)
+-- any of the claims, as the code asks for one
+pub any_filed : (f : Claim → Bool) (claims : List declared.Claim) → list_any (λ c. f (claim_of c)) claims ≡ any f (map claim_of claims)
+any_filed f [] = refl
+any_filed f (c ∷ claims) = ap (λ b. f (claim_of c) || b) (any_filed f claims)

@@ -1,5 +1,5 @@
 -- One turn of the search for an unmatched path.
-use Rattle.std.proofs.Common.{◌≡◌, ℕ, suc, ◌-◌, ◌<◌, Bool, true, false, List, [], ◌∷◌, ◌++◌, is_some, Some, None, Option, sym, refl, ap, ◌∙◌, ap₂, arith}
+use Rattle.std.proofs.Common.{◌≡◌, ℕ, suc, ◌-◌, ◌<◌, Bool, true, false, List, [], ◌∷◌, ◌++◌, Some, None, Option, sym, refl, ap, ◌∙◌, ap₂, arith}
 use Rattle.machine.specs.Machine.{Machine, Row, straight, branch, row_at, chosen}
 use Rattle.walk.specs.Settled.{any}
 use Rattle.machine.specs.Tables.{table_machine}
@@ -19,12 +19,8 @@ led_more m s (t ∷ path) turn = led_more m (chosen (row_at m s) t).target path 
 -- A row that has a turn, or has not.
 has_turn : (row : Row) (turn : Bool) (s : ℕ) → Some s ≡ allowed_target row turn → s ≡ (chosen row turn).target
 has_turn (straight t) true s e = cc
-has_turn (straight t) false s e = absurd (let z : ◌≡◌ {A = ℕ} 0 1 = cc in omega arith)
+has_turn (straight t) false s e = cc
 has_turn (branch test left right y n) turn s e = cc
-
-pub always_yes : (row : Row) → None ≡ allowed_target row true → ⊥
-always_yes (straight t) e = let z : ◌≡◌ {A = ℕ} 0 1 = cc in omega arith
-always_yes (branch test left right y n) e = let z : ◌≡◌ {A = ℕ} 0 1 = cc in omega arith
 
 module _ (claims : List Claim) (words : List ℕ) (p s : ℕ) (path : Path) (n : ℕ) where
   abbrev row : Row
@@ -66,31 +62,29 @@ module _ (claims : List Claim) (words : List ℕ) (p s : ℕ) (path : Path) (n :
     pub when_not_begun : false ≡ any_matches true claims p path → Finds claims words p s path n (Some path)
     when_not_begun e b h l = sym (by_filed some b h l ∙ ap₂ (λ x y. judged x y row (turns_of path) (on some b h l true) (on some b h l false)) (sym not_filed) (sym e))
 
-    module _ (begun : true ≡ any_matches true claims p path) (yes_state : ℕ) (yes_path : Path) (r : Option Path) (there : Some yes_state ≡ allowed_target row true) (goes : turns_of yes_path ≡ turns_of path ++ (true ∷ [])) (finds : Finds claims words p yes_state yes_path (n - 1) r) where
-      by_yes : (b : Open) (h : Holds b claims words) (l : led b.machine₁ (pair_at b p).state₁ (turns_of path) ≡ s) → unmatched b p n (turns_of path) ≡ judged false true row (turns_of path) (path_seen r) (on some b h l false)
-      by_yes b h l =
+    module _ (begun : true ≡ any_matches true claims p path) (yes_state : ℕ) (yes_path : Path) (there : Some yes_state ≡ allowed_target row true) (goes : turns_of yes_path ≡ turns_of path ++ (true ∷ [])) where
+      by_yes : (r : Option Path) → Finds claims words p yes_state yes_path (n - 1) r → (b : Open) (h : Holds b claims words) (l : led b.machine₁ (pair_at b p).state₁ (turns_of path) ≡ s) → unmatched b p n (turns_of path) ≡ judged false true row (turns_of path) (path_seen r) (on some b h l false)
+      by_yes r finds b h l =
           by_filed some b h l ∙ ap₂ (λ x y. judged x y row (turns_of path) (on some b h l true) (on some b h l false)) (sym not_filed) (sym begun)
           ∙ ap (λ x. judged false true row (turns_of path) x (on some b h l false)) (sym (continued some b h l true yes_state yes_path r there goes finds))
 
-      pub when_yes : is_some r ≡ true → Finds claims words p s path n r
-      when_yes e b h l = sym (by_yes b h l ∙ found row r e) where
-        found : (x : Row) (r : Option Path) → is_some r ≡ true → judged false true x (turns_of path) (path_seen r) (on some b h l false) ≡ path_seen r
-        found x None e = absurd (let z : ◌≡◌ {A = ℕ} 0 1 = cc in omega arith)
-        found (straight t) (Some q) e = refl
-        found (branch test left right y n) (Some q) e = refl
+      pub when_yes : (q : Path) → Finds claims words p yes_state yes_path (n - 1) (Some q) → Finds claims words p s path n (Some q)
+      when_yes q finds b h l = sym (by_yes (Some q) finds b h l ∙ found row) where
+        found : (x : Row) → judged false true x (turns_of path) (Some (turns_of q)) (on some b h l false) ≡ Some (turns_of q)
+        found (straight t) = refl
+        found (branch test left right y n) = refl
 
-      pub when_straight : is_some r ≡ false → None ≡ allowed_target row false → Finds claims words p s path n None
-      when_straight e z b h l = sym (by_yes b h l ∙ ended row r e z) where
-        ended : (x : Row) (r : Option Path) → is_some r ≡ false → None ≡ allowed_target x false → judged false true x (turns_of path) (path_seen r) (on some b h l false) ≡ None
-        ended x (Some q) e z = absurd (let z : ◌≡◌ {A = ℕ} 0 1 = cc in omega arith)
-        ended (straight t) None e z = refl
-        ended (branch test left right y n) None e z = absurd (let z : ◌≡◌ {A = ℕ} 0 1 = cc in omega arith)
+      module _ (finds : Finds claims words p yes_state yes_path (n - 1) None) where
+        pub when_straight : None ≡ allowed_target row false → Finds claims words p s path n None
+        when_straight z b h l = sym (by_yes None finds b h l ∙ ended row z) where
+          ended : (x : Row) → None ≡ allowed_target x false → judged false true x (turns_of path) None (on some b h l false) ≡ None
+          ended (straight t) z = refl
+          ended (branch test left right y n) z = cc
 
-      pub when_no : (no_state : ℕ) (no_path : Path) (r' : Option Path) → is_some r ≡ false → Some no_state ≡ allowed_target row false → turns_of no_path ≡ turns_of path ++ (false ∷ []) → Finds claims words p no_state no_path (n - 1) r' → Finds claims words p s path n r'
-      when_no s' q r' e there' goes' finds' b h l =
-          sym (by_yes b h l ∙ went row r e there' ∙ sym (continued some b h l false s' q r' there' goes' finds'))
-        where
-          went : (x : Row) (r : Option Path) → is_some r ≡ false → Some s' ≡ allowed_target x false → judged false true x (turns_of path) (path_seen r) (on some b h l false) ≡ on some b h l false
-          went x (Some q) e z = absurd (let z : ◌≡◌ {A = ℕ} 0 1 = cc in omega arith)
-          went (straight t) None e z = absurd (let z : ◌≡◌ {A = ℕ} 0 1 = cc in omega arith)
-          went (branch test left right y n) None e z = refl
+        pub when_no : (no_state : ℕ) (no_path : Path) (r : Option Path) → Some no_state ≡ allowed_target row false → turns_of no_path ≡ turns_of path ++ (false ∷ []) → Finds claims words p no_state no_path (n - 1) r → Finds claims words p s path n r
+        when_no s' q r there' goes' finds' b h l =
+            sym (by_yes None finds b h l ∙ went row there' ∙ sym (continued some b h l false s' q r there' goes' finds'))
+          where
+            went : (x : Row) → Some s' ≡ allowed_target x false → judged false true x (turns_of path) None (on some b h l false) ≡ on some b h l false
+            went (straight t) z = cc
+            went (branch test left right y n) z = refl

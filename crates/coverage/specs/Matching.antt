@@ -1,5 +1,5 @@
 -- Claims whose first path is a given one, or goes on behind it.
-use Rattle.std.specs.Prelude.{ℕ, zero, suc, ◌/◌, ◌%◌, Bool, true, cond, ◌&&◌, List, map, ◌==◌}
+use Rattle.std.specs.Prelude.{ℕ, zero, suc, ◌/◌, ◌%◌, Bool, true, false, cond, ◌&&◌, List, map, ◌==◌}
 use Rattle.std.specs.Bool.{beq}
 use Rattle.walk.specs.Settled.{any}
 use Rattle.proposal.specs.declared.claim.Path.{Path}
@@ -7,6 +7,8 @@ use Rattle.proposal.specs.declared.claim.Claim as declared
 use Rattle.proposal.specs.declared.claim.Claim.TheVariants as variants
 use Rattle.proposal.specs.Proposal.{Claim}
 use Rattle.proposal.specs.Claims.{turns_of, claim_of}
+use Rattle.coverage.specs.declared.matching.Along.{Along}
+use Rattle.coverage.specs.declared.matching.Along.TheVariants.{Itself, Longer}
 use Rattle.correspondence.specs.Coverage.{is_path, begins, claim_start, claim_path}
 
 -- The first n turns are the same.
@@ -22,6 +24,11 @@ start_of (variants.Infeasible start first) = start
 abbrev pub path_of : declared.Claim → Path
 path_of (variants.Live start end first second) = first
 path_of (variants.Infeasible start first) = first
+
+-- Whether longer paths are asked for.
+abbrev pub is_longer : Along → Bool
+is_longer Itself = false
+is_longer Longer = true
 
 -- A claim from this pair along this path, or, if so asked, along a longer one that begins with it.
 abbrev pub matches : (longer : Bool) → (pair : ℕ) → List Bool → Claim → Bool

@@ -4,7 +4,7 @@ ghost use Rattle.machine.specs.Tables.{IsTable, There};
 ghost use Rattle.proposal.specs.Claims.{turns_of};
 ghost use Rattle.coverage.specs.Trees.{Tidy, Finds, Lacks};
 
-use crate::matching::any_match;
+use crate::matching::{Along, any_match};
 use proposal::claim::{Claim, Path};
 use walk::order::step_target;
 
@@ -26,38 +26,40 @@ fn extended(path: Path, turn: bool) -> Path
     }
 }
 
-// From a path on, the first that is unmatched: beginnings before continuations, and yes before no. `left` is how many turns more a filed path can have, and one.
-fn first_unmatched(
-    claims: &[Claim],
-    words: &[u32],
+// Where paths are looked for: the claims and the first table of a comparison, and a pair.
+#[derive(Clone, Copy)]
+struct Tree<'a> {
+    claims: &'a [Claim],
+    words: &'a [u32],
     pair: u32,
-    state: u32,
-    path: Path,
-    left: u32,
-) -> Option<Path>
-    requires table { IsTable words.now }
-    requires state { There words.now state }
-    requires tidy { Tidy path }
-    requires short { path.length + left ≤ 17 }
-    ensures found { Finds claims.now words.now pair state path left result }
-    ensures tidy { IfSome result Tidy }
-{
-    if left == 0 {
-        return Some(path);
+    ghost table: { IsTable words.now },
+}
+
+impl Tree<'_> {
+    // From a path on, which leads to a state, the first that is unmatched: beginnings before continuations, and yes before no. `left` is how many turns more a filed path can have, and one.
+    fn first_unmatched(&self, state: u32, path: Path, left: u32) -> Option<Path>
+        requires state { There self.now.words.now state }
+        requires tidy { Tidy path }
+        requires short { path.length + left ≤ 17 }
+        ensures found { Finds self.now.claims.now self.now.words.now self.now.pair state path left result }
+        ensures tidy { IfSome result Tidy }
+    {
+        if left == 0 {
+            return Some(path);
+        }
+        if any_match(self.claims, self.pair, path, Along::Itself) {
+            return None;
+        }
+        if !any_match(self.claims, self.pair, path, Along::Longer) {
+            return Some(path);
+        }
+        let yes = step_target(self.words, state, true)?;
+        if let Some(found) = self.first_unmatched(yes, extended(path, true), left - 1) {
+            return Some(found);
+        }
+        let no = step_target(self.words, state, false)?;
+        self.first_unmatched(no, extended(path, false), left - 1)
     }
-    if any_match(claims, pair, path, false) {
-        return None;
-    }
-    if !any_match(claims, pair, path, true) {
-        return Some(path);
-    }
-    let yes = step_target(words, state, true)?;
-    let on_yes = first_unmatched(claims, words, pair, yes, extended(path, true), left - 1);
-    if on_yes.is_some() {
-        return on_yes;
-    }
-    let no = step_target(words, state, false)?;
-    first_unmatched(claims, words, pair, no, extended(path, false), left - 1)
 }
 
 // The first unmatched path from a pair whose first machine is in a state.
@@ -67,15 +69,14 @@ pub fn unmatched_from(claims: &[Claim], words: &[u32], pair: u32, state: u32) ->
     ensures found { Lacks claims.now words.now pair state result }
     ensures tidy { IfSome result Tidy }
 {
-    first_unmatched(
+    let tree = Tree {
         claims,
         words,
         pair,
-        state,
-        Path {
-            length: 0,
-            turns: 0,
-        },
-        DEPTH,
-    )
+    };
+    let root = Path {
+        length: 0,
+        turns: 0,
+    };
+    tree.first_unmatched(state, root, DEPTH)
 }

@@ -5,8 +5,8 @@ use domain::Domain;
 use domain::byte::Byte;
 use domain::word::Word;
 use expression::shape::is_expression;
-use forms::{Monomial, Term};
-use std::alloc::{AllocError, Global};
+use forms::Term;
+use samples::zero_terms;
 use std::io;
 use workspace::layout::ROOM;
 use workspace::{Level, Workspace};
@@ -192,17 +192,41 @@ const SIX_SQUARES: [u32; 23] = [
     SUM,
 ];
 
-// The terms that are lent to a workspace.
-fn lent<D: Domain>(heap: Global) -> Result<Vec<Term<D>>, AllocError> {
-    let mut row = Vec::new(heap);
-    for _ in 0..BELOW + ROOM {
-        row.push(Term {
-            coefficient: D::zero(),
-            monomial: Monomial::none(),
-        })?;
-    }
-    Ok(row)
-}
+// What is compared, by which name.
+const COMPARED: [(&str, &[u32], &[u32]); 12] = [
+    (
+        "(s0 + 1) (s0 - 1) and s0 s0 - 1",
+        &SQUARES,
+        &SQUARE_LESS_ONE,
+    ),
+    (
+        "(s0 + 1) (s0 + 1) and s0 s0 + 1",
+        &SQUARE_OF_SUM,
+        &SQUARE_AND_ONE,
+    ),
+    ("2 s0 and s0 + s0", &TWICE, &ADDED),
+    (
+        "s31 i7 - i7 s31 and -(s31 - s31)",
+        &LAST_VARIABLES,
+        &NOTHING,
+    ),
+    ("fourth power and 1", &FOURTH, &[ONE]),
+    ("fifth power and 1", &FIFTH, &[ONE]),
+    ("1 and fifth power", &[ONE], &FIFTH),
+    (
+        "fourth power times nothing and 0",
+        &FOURTH_TIMES_NOTHING,
+        &NOTHING,
+    ),
+    ("sixteen terms and themselves", &SIXTEEN, &SIXTEEN),
+    ("seventeen terms and themselves", &SEVENTEEN, &SEVENTEEN),
+    ("twenty terms and themselves", &TWENTY, &TWENTY),
+    (
+        "a sum of six squared and six squares",
+        &SIX_SQUARED,
+        &SIX_SQUARES,
+    ),
+];
 
 fn print_compared<D: Domain>(
     rt: &HostRuntime,
@@ -218,72 +242,28 @@ fn print_compared<D: Domain>(
         row,
         level: Level { at: BELOW },
     };
-    let found = workspace.compare(left, right);
+    let outcome = match workspace.compare(left, right) {
+        Ok(true) => "one form",
+        Ok(false) => "two forms",
+        Err(_) => "over the limits",
+    };
     let level = workspace.level.at;
-    match found {
-        Ok(true) => println!(rt; "{what}: one form, level {level}"),
-        Ok(false) => println!(rt; "{what}: two forms, level {level}"),
-        Err(_) => println!(rt; "{what}: over the limits, level {level}"),
-    }
+    println!(rt; "{what}: {outcome}, level {level}")
 }
 
 fn print_all<D: Domain>(rt: &HostRuntime, row: &mut [Term<D>]) -> io::Result<()> {
-    print_compared(
-        rt,
-        row,
-        "(s0 + 1) (s0 - 1) and s0 s0 - 1",
-        &SQUARES,
-        &SQUARE_LESS_ONE,
-    )?;
-    print_compared(
-        rt,
-        row,
-        "(s0 + 1) (s0 + 1) and s0 s0 + 1",
-        &SQUARE_OF_SUM,
-        &SQUARE_AND_ONE,
-    )?;
-    print_compared(rt, row, "2 s0 and s0 + s0", &TWICE, &ADDED)?;
-    print_compared(
-        rt,
-        row,
-        "s31 i7 - i7 s31 and -(s31 - s31)",
-        &LAST_VARIABLES,
-        &NOTHING,
-    )?;
-    print_compared(rt, row, "fourth power and 1", &FOURTH, &[ONE])?;
-    print_compared(rt, row, "fifth power and 1", &FIFTH, &[ONE])?;
-    print_compared(rt, row, "1 and fifth power", &[ONE], &FIFTH)?;
-    print_compared(
-        rt,
-        row,
-        "fourth power times nothing and 0",
-        &FOURTH_TIMES_NOTHING,
-        &NOTHING,
-    )?;
-    print_compared(rt, row, "sixteen terms and themselves", &SIXTEEN, &SIXTEEN)?;
-    print_compared(
-        rt,
-        row,
-        "seventeen terms and themselves",
-        &SEVENTEEN,
-        &SEVENTEEN,
-    )?;
-    print_compared(rt, row, "twenty terms and themselves", &TWENTY, &TWENTY)?;
-    print_compared(
-        rt,
-        row,
-        "a sum of six squared and six squares",
-        &SIX_SQUARED,
-        &SIX_SQUARES,
-    )
+    for (what, left, right) in COMPARED {
+        print_compared(rt, row, what, left, right)?;
+    }
+    Ok(())
 }
 
 fn run(rt: &HostRuntime) -> anyhow::Result<()> {
     println!(rt; "words")?;
-    let mut words: Vec<Term<Word>> = lent(rt.alloc())?;
+    let mut words = zero_terms::<Word>(rt.alloc(), BELOW + ROOM)?;
     print_all(rt, words.as_mut_slice())?;
     println!(rt; "bytes")?;
-    let mut bytes: Vec<Term<Byte>> = lent(rt.alloc())?;
+    let mut bytes = zero_terms::<Byte>(rt.alloc(), BELOW + ROOM)?;
     print_all(rt, bytes.as_mut_slice())?;
     Ok(())
 }

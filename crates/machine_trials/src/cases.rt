@@ -1,7 +1,7 @@
 // Tables that are accepted or refused, one line each.
 use machine::table::read_table;
 use std::alloc::{AllocError, Global};
-use std::io;
+use std::{io, iter};
 
 // One state; two states with two registers and one input.
 const ONE: u32 = 0x00010000;
@@ -48,13 +48,9 @@ pub fn judge(rt: &HostRuntime, name: &str, words: &[u32]) -> io::Result<()> {
 }
 
 fn spelt(heap: Global, runs: &[Run]) -> Result<Vec<u32>, AllocError> {
-    let mut words = Vec::new(heap);
-    for r in runs {
-        for _ in 0..r.count {
-            words.push(r.word)?;
-        }
-    }
-    Ok(words)
+    runs.iter()
+        .flat_map(|r| iter::repeat_n(r.word, r.count))
+        .collect(heap)
 }
 
 // The same of a table that is given by runs of equal words.
@@ -98,17 +94,10 @@ pub fn lengths(rt: &HostRuntime) -> io::Result<()> {
 // Eleven rows: ten of eight actions with 24 words each, and one whose second action has `last` negations.
 fn long(rt: &HostRuntime, name: &str, last: usize) -> io::Result<()> {
     let heap = rt.alloc();
-    let action = [times(1, ZERO), times(23, NEG), times(1, EMIT)];
-    let mut words = Vec::new(heap);
-    words.push(0x000b0000)?;
-    for _ in 0..10 {
-        for _ in 0..8 {
-            words.extend_from_slice(&spelt(heap, &action)?)?;
-        }
-        words.push(GO)?;
-    }
-    words.extend_from_slice(&spelt(heap, &action)?)?;
-    words.extend_from_slice(&spelt(
+    let action = spelt(heap, &[times(1, ZERO), times(23, NEG), times(1, EMIT)])?;
+    let mut row = action.repeat(heap, 8)?;
+    row.push(GO)?;
+    let end = spelt(
         heap,
         &[
             times(1, ZERO),
@@ -116,7 +105,11 @@ fn long(rt: &HostRuntime, name: &str, last: usize) -> io::Result<()> {
             times(1, EMIT),
             times(1, GO),
         ],
-    )?)?;
+    )?;
+    let mut words = vec![in heap; 0x000b0000]?;
+    words.extend_from_slice(&row.repeat(heap, 10)?)?;
+    words.extend_from_slice(&action)?;
+    words.extend_from_slice(&end)?;
     judge(rt, name, &words)
 }
 
@@ -214,12 +207,9 @@ pub fn actions(rt: &HostRuntime) -> io::Result<()> {
 
 // A row of eight emits, and these words before the go-to.
 fn eight(rt: &HostRuntime, name: &str, more: &[u32]) -> io::Result<()> {
-    let mut words = Vec::new(rt.alloc());
-    words.push(ONE)?;
-    for _ in 0..8 {
-        words.push(ZERO)?;
-        words.push(EMIT)?;
-    }
+    let heap = rt.alloc();
+    let mut words = vec![in heap; ONE]?;
+    words.extend_from_slice(&[ZERO, EMIT].repeat(heap, 8)?)?;
     words.extend_from_slice(more)?;
     words.push(GO)?;
     judge(rt, name, &words)

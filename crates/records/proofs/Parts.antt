@@ -1,12 +1,7 @@
 -- The parts that words consist of, one at a time.
-use Rattle.std.proofs.Common.{◌≡◌, ℕ, zero, suc, ◌/◌, ◌%◌, ◌<◌, ◌≤◌, Bool, true, false, cond, ◌&&◌, eqb, leb, List, [], ◌∷◌, ◌++◌, length, take, drop, Some, None, Err, Option, sym, refl, ap, ◌∙◌, subst, arith, length-drop}
+use Rattle.std.proofs.Common.{◌≡◌, ℕ, zero, suc, ◌/◌, ◌%◌, ◌<◌, ◌≤◌, Bool, true, false, cond, ◌&&◌, eqb, leb, List, [], ◌∷◌, ◌++◌, length, take, drop, Some, None, Option, sym, refl, ap, ◌∙◌, subst, arith, length-drop}
 use Rattle.std.proofs.lemmas.List.{append_assoc, append-nil}
-use Rattle.records.specs.declared.file.FileFault.{FileFault}
-use Rattle.records.specs.declared.file.FileFault.TheVariants.{BadFile, NoMemory}
-use Rattle.records.specs.Files.{and_then, before, or_else, Body, body, Part, pair, claim, Next, next, parts_within, parts_of, Reads}
-
-none_some : {A : Type 0} (x : A) → None ≡ Some x → ⊥
-none_some x e = let z : ◌≡◌ {A = ℕ} 0 1 = cc in omega arith
+use Rattle.records.specs.Files.{and_then, before, or_else, Body, body, Part, pair, claim, Next, next, parts_within, parts_of}
 
 cut_shorter : (b : Bool) (k : ℕ) (ws : List ℕ) (y : Body) → cond b (Some (record { words = take k ws; rest = drop k ws })) None ≡ Some y → length y.rest ≤ length ws
 cut_shorter true k ws y e = let r : drop k ws ≡ y.rest = rest_of e in rw (← r) (simp length-drop (omega arith))
@@ -17,7 +12,7 @@ cut_shorter true k ws y e = let r : drop k ws ≡ y.rest = rest_of e in rw (← 
 
     rest_of : Some (record { words = take k ws; rest = drop k ws }) ≡ Some y → drop k ws ≡ y.rest
     rest_of p = ap rest p
-cut_shorter false k ws y e = absurd (none_some y e)
+cut_shorter false k ws y e = cc
 
 body_shorter : (mark w : ℕ) (ws : List ℕ) (y : Body) → body mark (w ∷ ws) ≡ Some y → length y.rest ≤ length ws
 body_shorter mark w ws y e = cut_shorter (eqb (w / 65536) mark && leb (w % 65536) (length ws)) (w % 65536) ws y e
@@ -29,11 +24,11 @@ behind (Some x) = x.rest
 either_shorter : (n : ℕ) (o p : Option Body) → ((y : Body) → o ≡ Some y → length y.rest ≤ n) → ((y : Body) → p ≡ Some y → length y.rest ≤ n) → (x : Next) → or_else (and_then o (λ b. Some (record { part = pair b.words; rest = b.rest }))) (and_then p (λ b. Some (record { part = claim b.words; rest = b.rest }))) ≡ Some x → length x.rest ≤ n
 either_shorter n (Some y) p f g x e = subst (λ l. length l ≤ n) (ap behind e) (f y refl)
 either_shorter n None (Some y) f g x e = subst (λ l. length l ≤ n) (ap behind e) (g y refl)
-either_shorter n None None f g x e = absurd (none_some x e)
+either_shorter n None None f g x e = cc
 
 -- a part takes a word or more
 pub next_shorter : (ws : List ℕ) (x : Next) → next ws ≡ Some x → length x.rest < length ws
-next_shorter [] x e = absurd (none_some x e)
+next_shorter [] x e = cc
 next_shorter (w ∷ ws) x e =
     let s = either_shorter (length ws) (body 0xF300 (w ∷ ws)) (body 0xF400 (w ∷ ws)) (body_shorter 0xF300 w ws) (body_shorter 0xF400 w ws) x e in
     omega arith
@@ -81,12 +76,3 @@ module _ (words : List ℕ) where
 
   pub parts_end : (ps : List Part) (rest : List ℕ) → length rest ≡ 0 → parts_of words ≡ before ps (parts_of rest) → parts_of words ≡ Some ps
   parts_end ps rest h inv = inv ∙ ap (before ps) (parts_none rest h) ∙ ap Some (append-nil ps)
-
--- A fault at a part is a fault of the whole.
-pub passed_on : {X Y : Type 0} {A B : Type 0} (f : X → A) (g : Y → B) (o : Option A) (p : Option B) (e : FileFault) → (o ≡ None → p ≡ None) → Reads f (Err e) o → Reads g (Err e) p
-passed_on f g o p BadFile h r = h r
-passed_on f g o p NoMemory h r = r
-
-pub some_words : (ws : List ℕ) (b : Bool) → b ≡ eqb (length ws) 0 → b ≡ false → 0 < length ws
-some_words [] b e f = absurd (let z : true ≡ false = sym e ∙ f in let w : ◌≡◌ {A = ℕ} 0 1 = cc in omega arith)
-some_words (w ∷ ws) b e f = omega arith

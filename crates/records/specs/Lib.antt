@@ -1,2 +1,4 @@
+pub mod Domains
+pub mod Records
 pub mod Lines
 pub mod Files

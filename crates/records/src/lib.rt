@@ -5,3 +5,4 @@ pub mod file;
 pub mod line;
 pub mod printing;
 pub mod reading;
+mod record;

@@ -1,9 +1,10 @@
 // A line that is printed.
-#[derive(Clone, Copy)]
+#[derive(Clone, Copy, Debug, PartialEq, Eq)]
 pub enum Line {
     Opened,
     Pair(u32),
     Claim(u32),
+    // By its number in docs/REFUSALS.md: the faults are enums of crates that know no lines, and each gives its number.
     Refused {
         number: u32,
         machine: u32,

@@ -1,7 +1,8 @@
-// The bytes of each printed line.
+// What is printed.
 ghost use Rattle.std.specs.Prelude.{◌≡◌, IfOk, Some, string_bytes};
-ghost use Rattle.records.specs.Lines.{line_bytes};
+ghost use Rattle.records.specs.Lines.{line_bytes, values_bytes, fault_bytes};
 
+use crate::file::{FileFault, Values};
 use crate::line::Line;
 use std::alloc::{AllocError, Global};
 use std::fmt;
@@ -26,6 +27,28 @@ impl fmt::Display for Line {
                 turns,
             } => write!(f, "unmatched {pair} {length} {turns}"),
             Line::BadFile => write!(f, "bad file"),
+        }
+    }
+}
+
+impl fmt::Display for Values {
+    ghost output = { λ v. Some (values_bytes v) };
+
+    fn fmt<W: fmt::Write>(&self, f: &mut fmt::Formatter<W>) -> fmt::Result {
+        match self {
+            Values::Words => write!(f, "words"),
+            Values::Bytes => write!(f, "bytes"),
+        }
+    }
+}
+
+impl fmt::Display for FileFault {
+    ghost output = { λ fault. Some (fault_bytes fault) };
+
+    fn fmt<W: fmt::Write>(&self, f: &mut fmt::Formatter<W>) -> fmt::Result {
+        match self {
+            FileFault::BadFile => write!(f, "bad file"),
+            FileFault::NoMemory => write!(f, "no memory"),
         }
     }
 }

@@ -1,56 +1,29 @@
 // A file taken apart.
-ghost use Rattle.std.specs.Prelude.{◌≡◌, ℕ, Some, vec_items};
-ghost use Rattle.records.specs.declared.file.FileFault.TheVariants.{NoMemory};
+ghost use Rattle.std.specs.Prelude.{◌≡◌, vec_items};
+ghost use Rattle.records.specs.Records.{mark};
 ghost use Rattle.records.specs.Files.{Reads, words_of, body, next, parts_of, start_of, layout_of, file_of, seen, seen_part, seen_parts, seen_body, seen_next};
 
 use crate::file::{File, FileFault, Part, Values};
-use std::alloc::{AllocError, AllocFailed, Global};
+use crate::record::RecordType;
+use std::alloc::Global;
 
-// The upper halves of the first words of records.
-const START: u32 = 0xF000;
-
-const FIRST: u32 = 0xF100;
-
-const SECOND: u32 = 0xF200;
-
-const PAIR: u32 = 0xF300;
-
-const CLAIM: u32 = 0xF400;
-
-// 16,384 words of four bytes.
-const LONGEST: usize = 65536;
-
-impl From<AllocError> for FileFault {
-    ghost from_gives = { λ _ y. y ≡ NoMemory };
-
-    fn from(_e: AllocError) -> FileFault {
-        FileFault::NoMemory
-    }
-}
-
-impl<T: Drop> From<AllocFailed<T>> for FileFault {
-    ghost from_gives = { λ _ y. y ≡ NoMemory };
-
-    fn from(_e: AllocFailed<T>) -> FileFault {
-        FileFault::NoMemory
-    }
-}
+// The bytes of the longest file: 16,384 words of four.
+pub const LONGEST: usize = 65536;
 
 // The words of the bytes, big-endian.
 fn words_of(heap: Global, bytes: &[u8]) -> Result<Vec<u32>, FileFault>
     ensures { Reads vec_items result (words_of bytes.now) }
 {
-    let mut words = Vec::new(heap);
-    let mut rest = bytes;
-    while rest.len() >= 4 {
-        words.push(u32::from_be_bytes([rest[0], rest[1], rest[2], rest[3]]))?;
-        rest = &rest[4..];
+    let (words, rest) = bytes.as_chunks::<4>();
+    if !rest.is_empty() {
+        return Err(FileFault::BadFile);
     }
-    if rest.is_empty() {
-        Ok(words)
-    } else {
-        Err(FileFault::BadFile)
-    }
+    Ok(
+        words
+            .iter()
+            .map(|word| u32::from_be_bytes(*word))
+            .collect(heap)?,
+    )
 }
 
 // The words that a record counts, and what stands behind them.
@@ -67,17 +40,13 @@ struct Start {
     shared: u32,
 }
 
-// The record with this mark at the front of the words.
-fn body_of(words: &[u32], mark: u32) -> Option<Body<'_>>
-    ensures { seen_body result ≡ body mark words.now }
+// The record of this type at the front of the words.
+fn body_of(words: &[u32], wanted: RecordType) -> Option<Body<'_>>
+    ensures { seen_body result ≡ body (mark wanted) words.now }
 {
-    if words.is_empty() {
-        return None;
-    }
-    let head = words[0];
-    let more = &words[1..];
+    let (head, more) = words.split_first()?;
     let count = (head % 65536) as usize;
-    if head / 65536 != mark || count > more.len() {
+    if head / 65536 != wanted.mark() || count > more.len() {
         return None;
     }
     let (words, rest) = more.split_at(count);
@@ -95,16 +64,14 @@ struct Next<'a> {
 fn next_of(heap: Global, words: &[u32]) -> Result<Next<'_>, FileFault>
     ensures { Reads seen_next result (next words.now) }
 {
-    if let Some(body) = body_of(words, PAIR) {
+    if let Some(body) = body_of(words, RecordType::Pair) {
         let part = Part::Pair(Vec::from_slice(heap, body.words)?);
         return Ok(Next {
             part,
             rest: body.rest,
         });
     }
-    let Some(body) = body_of(words, CLAIM) else {
-        return Err(FileFault::BadFile);
-    };
+    let body = body_of(words, RecordType::Claim).ok_or(FileFault::BadFile)?;
     let part = Part::Claim(Vec::from_slice(heap, body.words)?);
     Ok(Next {
         part,
@@ -112,7 +79,7 @@ fn next_of(heap: Global, words: &[u32]) -> Result<Next<'_>, FileFault>
     })
 }
 
-// The pairs and claims that the words consist of.
+// The pairs and claims that the words consist of. No iterator: each takes memory, and its words tell where the next begins.
 fn parts_of(heap: Global, words: &[u32]) -> Result<Vec<Part>, FileFault>
     ensures { Reads seen_parts result (parts_of words.now) }
 {
@@ -130,40 +97,23 @@ fn parts_of(heap: Global, words: &[u32]) -> Result<Vec<Part>, FileFault>
 fn start_of(word: u32) -> Option<Start>
     ensures { result ≡ start_of word }
 {
-    if word / 65536 != START {
+    if word / 65536 != RecordType::Start.mark() {
         return None;
     }
-    let shared = word / 256 % 256;
-    match word % 256 {
-        0 => Some(Start {
-            values: Values::Words,
-            shared,
-        }),
-        1 => Some(Start {
-            values: Values::Bytes,
-            shared,
-        }),
-        _ => None,
-    }
+    Some(Start {
+        values: Values::try_from(word % 256).ok()?,
+        shared: word / 256 % 256,
+    })
 }
 
 // The start, the two tables and the parts, in this order.
 fn layout_of(heap: Global, words: &[u32]) -> Result<File, FileFault>
     ensures { Reads seen result (layout_of words.now) }
 {
-    if words.is_empty() {
-        return Err(FileFault::BadFile);
-    }
-    let (_, tables) = words.split_at(1);
-    let Some(Start { values, shared }) = start_of(words[0]) else {
-        return Err(FileFault::BadFile);
-    };
-    let Some(first) = body_of(tables, FIRST) else {
-        return Err(FileFault::BadFile);
-    };
-    let Some(second) = body_of(first.rest, SECOND) else {
-        return Err(FileFault::BadFile);
-    };
+    let (word, tables) = words.split_first().ok_or(FileFault::BadFile)?;
+    let Start { values, shared } = start_of(*word).ok_or(FileFault::BadFile)?;
+    let first = body_of(tables, RecordType::FirstTable).ok_or(FileFault::BadFile)?;
+    let second = body_of(first.rest, RecordType::SecondTable).ok_or(FileFault::BadFile)?;
     let parts = parts_of(heap, second.rest)?;
     let first = Vec::from_slice(heap, first.words)?;
     let second = Vec::from_slice(heap, second.words)?;

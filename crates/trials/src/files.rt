@@ -1,6 +1,4 @@
 // Files that the layout allows, and files of every kind that it does not.
-use records::file::FileFault;
-use records::line::Line;
 use records::reading;
 use std::io;
 
@@ -12,108 +10,95 @@ fn print_file(rt: &HostRuntime, name: &str, bytes: &[u8]) -> io::Result<()> {
             let parts = file.parts.len();
             println!(rt; "{name}: tables of {first} and {second} words, {parts} parts")
         }
-        Err(FileFault::BadFile) => {
-            let line = Line::BadFile;
-            println!(rt; "{name}: {line}")
-        }
-        Err(FileFault::NoMemory) => println!(rt; "{name}: no memory"),
+        Err(fault) => println!(rt; "{name}: {fault}"),
     }
 }
 
 fn print_words(rt: &HostRuntime, name: &str, words: &[u32]) -> io::Result<()> {
-    let mut bytes = Vec::new(rt.alloc());
-    for word in words {
-        bytes.extend_from_slice(&word.to_be_bytes())?;
-    }
+    let bytes: Vec<u8> = words
+        .iter()
+        .flat_map(|word| word.to_be_bytes())
+        .collect(rt.alloc())?;
     print_file(rt, name, &bytes)
 }
 
 // A start, two tables and a claim of so many words.
 fn print_long(rt: &HostRuntime, name: &str, claim: u32) -> io::Result<()> {
-    let mut bytes = Vec::new(rt.alloc());
-    for word in [0xf0000000, 0xf1000000, 0xf2000000, 0xf4000000 | claim] {
-        bytes.extend_from_slice(&u32::to_be_bytes(word))?;
-    }
-    for _ in 0..claim {
-        bytes.extend_from_slice(&[0, 0, 0, 0])?;
-    }
-    print_file(rt, name, &bytes)
+    let mut words = vec![in rt.alloc(); 0xf0000000, 0xf1000000, 0xf2000000, 0xf4000000 | claim]?;
+    words.resize(4 + claim as usize, 0)?;
+    print_words(rt, name, &words)
 }
 
-fn good(rt: &HostRuntime) -> io::Result<()> {
-    print_words(rt, "empty tables", &[0xf0000000, 0xf1000000, 0xf2000000])?;
-    print_words(rt, "over bytes", &[0xf000ff01, 0xf1000001, 7, 0xf2000000])?;
-    print_words(
-        rt,
+// Files that the layout allows.
+const GOOD: [(&str, &[u32]); 3] = [
+    ("empty tables", &[0xf0000000, 0xf1000000, 0xf2000000]),
+    ("over bytes", &[0xf000ff01, 0xf1000001, 7, 0xf2000000]),
+    (
         "parts",
         &[
             0xf0000000, 0xf1000000, 0xf2000000, 0xf4000001, 9, 0xf3000000, 0xf4000000,
         ],
-    )?;
-    print_long(rt, "16384 words", 16380)
-}
+    ),
+];
 
-fn bad(rt: &HostRuntime) -> io::Result<()> {
-    print_words(rt, "no word", &[])?;
-    print_words(rt, "start alone", &[0xf0000000])?;
-    print_words(rt, "one table", &[0xf0000000, 0xf1000000])?;
-    print_words(rt, "no start", &[0xf1000000, 0xf2000000])?;
-    print_words(
-        rt,
-        "tables exchanged",
-        &[0xf0000000, 0xf2000000, 0xf1000000],
-    )?;
-    print_words(
-        rt,
+// Files that it does not allow.
+const BAD: [(&str, &[u32]); 14] = [
+    ("no word", &[]),
+    ("start alone", &[0xf0000000]),
+    ("one table", &[0xf0000000, 0xf1000000]),
+    ("no start", &[0xf1000000, 0xf2000000]),
+    ("tables exchanged", &[0xf0000000, 0xf2000000, 0xf1000000]),
+    (
         "second start",
         &[0xf0000000, 0xf1000000, 0xf2000000, 0xf0000000],
-    )?;
-    print_words(
-        rt,
+    ),
+    (
         "third table",
         &[0xf0000000, 0xf1000000, 0xf2000000, 0xf1000000],
-    )?;
-    print_words(
-        rt,
+    ),
+    (
         "unknown type",
         &[0xf0000000, 0xf1000000, 0xf2000000, 0xf5000000],
-    )?;
-    print_words(
-        rt,
+    ),
+    (
         "unknown kind",
         &[0xf0000000, 0xf1000000, 0xf2000000, 0xe3000000],
-    )?;
-    print_words(rt, "unknown domain", &[0xf0000002, 0xf1000000, 0xf2000000])?;
-    print_words(
-        rt,
+    ),
+    ("unknown domain", &[0xf0000002, 0xf1000000, 0xf2000000]),
+    (
         "unused bit in the start",
         &[0xf0010000, 0xf1000000, 0xf2000000],
-    )?;
-    print_words(
-        rt,
+    ),
+    (
         "unused bit in a record",
         &[0xf0000000, 0xf1000000, 0xf2000000, 0xf3010000],
-    )?;
-    print_words(
-        rt,
+    ),
+    (
         "table past the end",
         &[0xf0000000, 0xf1000003, 0xf2000000, 1],
-    )?;
-    print_words(
-        rt,
+    ),
+    (
         "claim past the end",
         &[0xf0000000, 0xf1000000, 0xf2000000, 0xf4000001],
-    )?;
+    ),
+];
+
+fn print_all(rt: &HostRuntime, files: &[(&str, &[u32])]) -> io::Result<()> {
+    for (name, words) in files {
+        print_words(rt, name, words)?;
+    }
+    Ok(())
+}
+
+pub fn run(rt: &HostRuntime) -> anyhow::Result<()> {
+    print_all(rt, &GOOD)?;
+    print_long(rt, "16384 words", 16380)?;
+    print_all(rt, &BAD)?;
     print_file(
         rt,
         "length of 13 bytes",
         &[0xf0, 0, 0, 0, 0xf1, 0, 0, 0, 0xf2, 0, 0, 0, 0],
     )?;
-    print_long(rt, "16385 words", 16381)
-}
-
-pub fn run(rt: &HostRuntime) -> anyhow::Result<()> {
-    good(rt)?;
-    bad(rt)?;
+    print_long(rt, "16385 words", 16381)?;
     Ok(())
 }

@@ -4,7 +4,6 @@ use domain::word::Word;
 use domain::{Domain, fips};
 use std::io;
 
-// The worked products of FIPS 197.
 fn print_product(rt: &HostRuntime, a: u8, b: u8) -> io::Result<()> {
     let c = fips::product(a, b);
     println!(rt; "{a:02x} * {b:02x} = {c:02x}")
@@ -22,6 +21,7 @@ fn print_words(rt: &HostRuntime, a: u32, b: u32) -> io::Result<()> {
     )
 }
 
+// Not one function with the words: a byte has two digits, and its products stand apart.
 fn print_bytes(rt: &HostRuntime, a: u8, b: u8) -> io::Result<()> {
     let x = Byte::of(a);
     let y = Byte::of(b);
@@ -31,20 +31,31 @@ fn print_bytes(rt: &HostRuntime, a: u8, b: u8) -> io::Result<()> {
     println!(rt; "bytes {a:02x} {b:02x}: sum {sum:02x}, opposite {opposite:02x}, below {below}")
 }
 
+// Whether 0 - 1 is below 0.
+fn is_minus_one_below<D: Domain>() -> bool {
+    D::zero().add(D::one().neg()).below(D::zero())
+}
+
 fn print_minus_one(rt: &HostRuntime) -> io::Result<()> {
-    let over_words = Word::zero().add(Word::one().neg()).below(Word::zero());
-    let over_bytes = Byte::zero().add(Byte::one().neg()).below(Byte::zero());
+    let (over_words, over_bytes) = (is_minus_one_below::<Word>(), is_minus_one_below::<Byte>());
     println!(rt; "0 - 1 below 0: words {over_words}, bytes {over_bytes}")
 }
 
+// The worked products of FIPS 197.
+const PRODUCTS: [(u8, u8); 7] = [
+    (0x57, 0x83),
+    (0x57, 0x13),
+    (0x57, 0x02),
+    (0xae, 0x02),
+    (0x47, 0x02),
+    (0x8e, 0x02),
+    (0x00, 0xff),
+];
+
 pub fn run(rt: &HostRuntime) -> anyhow::Result<()> {
-    print_product(rt, 0x57, 0x83)?;
-    print_product(rt, 0x57, 0x13)?;
-    print_product(rt, 0x57, 0x02)?;
-    print_product(rt, 0xae, 0x02)?;
-    print_product(rt, 0x47, 0x02)?;
-    print_product(rt, 0x8e, 0x02)?;
-    print_product(rt, 0x00, 0xff)?;
+    for (a, b) in PRODUCTS {
+        print_product(rt, a, b)?;
+    }
     print_words(rt, 0xffffffff, 1)?;
     print_words(rt, 0x7fffffff, 0x80000000)?;
     print_bytes(rt, 0x57, 0x83)?;

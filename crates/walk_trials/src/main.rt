@@ -4,11 +4,10 @@
 ghost use Rattle.std.specs.Prelude.{◌+◌, ◌<◌, ◌≤◌};
 ghost use Rattle.workspace.specs.Layout.{slot_count};
 
-use domain::Domain;
 use domain::word::Word;
 use expression::test::Test;
-use forms::{Monomial, Term};
-use std::alloc::{AllocError, Global};
+use forms::Term;
+use samples::{COUNTER, test_name, zero_terms};
 use std::io;
 use walk::fault::WalkFault;
 use walk::known::{KnownTests, Noted};
@@ -21,16 +20,7 @@ use workspace::layout::{
 };
 use workspace::{Group, Slots};
 
-// the loop counter
-const FIRST: [u32; 33] = [
-    0x00020301, 0x30000000, 0x10000000, 0x60000001, 0x10000009, 0x80000000, 0x90000000, 0x10000000,
-    0x70000000, 0x10000000, 0x70000001, 0x10000000, 0x70000002, 0x90000001, 0x30000000, 0x20000002,
-    0x60000001, 0x20000000, 0x20000001, 0x50000000, 0x80000000, 0x90000000, 0x20000000, 0x20000002,
-    0x50000000, 0x70000000, 0x10000003, 0x70000001, 0x20000002, 0x10000001, 0x50000000, 0x70000002,
-    0x90000001,
-];
-
-// the same with 3 stored in register 1 before the loop
+// The loop counter with 3 stored in register 1 before the loop
 const SECOND: [u32; 31] = [
     0x00020301, 0x30000000, 0x10000000, 0x60000001, 0x10000009, 0x80000000, 0x90000000, 0x10000000,
     0x70000000, 0x10000003, 0x70000001, 0x10000000, 0x70000002, 0x90000001, 0x30000000, 0x20000002,
@@ -38,23 +28,27 @@ const SECOND: [u32; 31] = [
     0x50000000, 0x70000000, 0x20000002, 0x10000001, 0x50000000, 0x70000002, 0x90000001,
 ];
 
+const FIRST_SIDE: Side = Side {
+    registers: Group {
+        first: FIRST_REGISTERS,
+        count: 3,
+    },
+    outputs: FIRST_OUTPUTS,
+};
+
+const SECOND_SIDE: Side = Side {
+    registers: Group {
+        first: SECOND_REGISTERS,
+        count: 3,
+    },
+    outputs: SECOND_OUTPUTS,
+};
+
 // A path of one step, from a state.
 #[derive(Clone, Copy)]
 struct Way {
     state: u32,
     turn: bool,
-}
-
-// The terms that are lent.
-fn lent(heap: Global) -> Result<Vec<Term<Word>>, AllocError> {
-    let mut row = Vec::new(heap);
-    for _ in 0..ROOM {
-        row.push(Term {
-            coefficient: Word::zero(),
-            monomial: Monomial::none(),
-        })?;
-    }
-    Ok(row)
 }
 
 // Symbols 0 and 2 in registers 0 and 2; register 1 has symbol 1 in state 0, and 3 elsewhere.
@@ -80,8 +74,8 @@ fn print_form(rt: &HostRuntime, slots: &Slots<'_, Word>, what: &str, k: usize) -
 {
     println!(rt; "  {what} {k}")?;
     let count = slots.lens.of[k] as usize;
-    for i in 0..count {
-        print_term(rt, slots.row[16 * k + i])?;
+    for term in &slots.row[16 * k..16 * k + count] {
+        print_term(rt, *term)?;
     }
     Ok(())
 }
@@ -103,10 +97,8 @@ fn print_known(rt: &HostRuntime, slots: &Slots<'_, Word>, known: &KnownTests) ->
     for j in 0..known.count {
         let noted = known.noted[j];
         let says = noted.says;
-        match noted.test {
-            Test::Same => println!(rt; "  known: same, {says}")?,
-            Test::Below => println!(rt; "  known: below, {says}")?,
-        }
+        let name = test_name(noted.test);
+        println!(rt; "  known: {name}, {says}")?;
         print_form(rt, slots, "left slot", KNOWN + 2 * j)?;
         print_form(rt, slots, "right slot", KNOWN + 2 * j + 1)?;
     }
@@ -124,13 +116,6 @@ fn print_second(
         return println!(rt; "  second: not walked");
     }
     begin(slots, SECOND_REGISTERS, way.state);
-    let side = Side {
-        registers: Group {
-            first: SECOND_REGISTERS,
-            count: 3,
-        },
-        outputs: SECOND_OUTPUTS,
-    };
     let mut outputs = Outputs {
         ports: [0; 16],
         count: 0,
@@ -138,7 +123,7 @@ fn print_second(
     match follow_settled(
         slots,
         &SECOND,
-        side,
+        SECOND_SIDE,
         way.state,
         &[way.turn],
         known,
@@ -154,21 +139,14 @@ fn print_second(
 fn print_first(rt: &HostRuntime, row: &mut [Term<Word>], way: Way) -> io::Result<()> {
     let (start, turn) = (way.state, way.turn);
     println!(rt; "state {start}, turn {turn}")?;
-    if row.len() < ROOM || !is_there(&FIRST, start) {
+    if row.len() < ROOM || !is_there(&COUNTER, start) {
         return println!(rt; "  not walked");
     }
-    if check_order(&FIRST, start, &[turn]).is_err() {
+    if check_order(&COUNTER, start, &[turn]).is_err() {
         return println!(rt; "  impossible");
     }
     let mut slots = Slots::empty(row);
     begin(&mut slots, FIRST_REGISTERS, start);
-    let side = Side {
-        registers: Group {
-            first: FIRST_REGISTERS,
-            count: 3,
-        },
-        outputs: FIRST_OUTPUTS,
-    };
     let mut known = KnownTests {
         noted: [Noted {
             test: Test::Same,
@@ -182,8 +160,8 @@ fn print_first(rt: &HostRuntime, row: &mut [Term<Word>], way: Way) -> io::Result
     };
     match follow(
         &mut slots,
-        &FIRST,
-        side,
+        &COUNTER,
+        FIRST_SIDE,
         start,
         &[turn],
         &mut known,
@@ -194,31 +172,18 @@ fn print_first(rt: &HostRuntime, row: &mut [Term<Word>], way: Way) -> io::Result
     }
     print_side(rt, &slots, &outputs)?;
     print_known(rt, &slots, &known)?;
-    print_second(
-        rt,
-        &mut slots,
-        &known,
-        Way {
-            state: start,
-            turn: true,
-        },
-    )?;
-    print_second(
-        rt,
-        &mut slots,
-        &known,
-        Way {
-            state: start,
-            turn: false,
-        },
-    )
+    for turn in [true, false] {
+        print_second(rt, &mut slots, &known, Way { state: start, turn })?;
+    }
+    Ok(())
 }
 
 fn run(rt: &HostRuntime) -> anyhow::Result<()> {
-    let mut row = lent(rt.alloc())?;
+    let mut row = zero_terms(rt.alloc(), ROOM)?;
     for state in 0..2 {
-        print_first(rt, row.as_mut_slice(), Way { state, turn: true })?;
-        print_first(rt, row.as_mut_slice(), Way { state, turn: false })?;
+        for turn in [true, false] {
+            print_first(rt, row.as_mut_slice(), Way { state, turn })?;
+        }
     }
     Ok(())
 }

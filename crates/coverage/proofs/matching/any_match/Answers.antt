@@ -1,14 +1,13 @@
-use Rattle.std.proofs.Common.{◌∙◌}
-use Rattle.proposal.specs.Claims.{turns_of}
-use Rattle.coverage.specs.Matching.{matches}
-use Rattle.coverage.proofs.Agreeing.{match_here, match_none, match_on}
+use Rattle.std.proofs.Common.{◌∙◌, rules, tests}
+use Rattle.std.proofs.lemmas.Iterator.{YieldsList-from_slice}
+use Rattle.std.proofs.lemmas.Iterator.Search.{any_from_yields_List}
+use Rattle.proposal.specs.Claims.{turns_of, claim_of}
+use Rattle.coverage.specs.Matching.{is_longer, matches}
+use Rattle.coverage.proofs.Agreeing.{any_filed}
 use Rattle.coverage.proofs.matching.any_match.Goals as goal
 
-pub returns-then-is_match : goal.returns-then-is_match
-returns-then-is_match c = match_here (matches c.args.longer c.args.pair (turns_of c.args.path)) c.args.claims.now c.loop-claim.claim-index _ c.loop-claim-test.true c.if-is_match.ensures ∙ c.loop-claim.invariant
-
-pub loop-claim-preserved : goal.loop-claim-preserved
-loop-claim-preserved c = match_on (matches c.args.longer c.args.pair (turns_of c.args.path)) c.args.claims.now c.loop-claim.claim-index _ c.loop-claim-test.true c.if-is_match.ensures ∙ c.loop-claim.invariant
-
 pub returns : goal.returns
-returns c = match_none (matches c.args.longer c.args.pair (turns_of c.args.path)) c.args.claims.now c.loop-claim.claim-index c.loop-claim-test.false ∙ c.loop-claim.invariant
+returns c =
+    let test = matches (is_longer c.args.along) c.args.pair (turns_of c.args.path) in
+    any_from_yields_List (λ x. test (claim_of x)) _ _ _ c.any.ensures.ran (YieldsList-from_slice c.args.claims.now cc) (λ x b q k. search (rules, tests))
+    ∙ any_filed test c.args.claims.now
