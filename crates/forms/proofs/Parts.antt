@@ -1,8 +1,11 @@
 -- A part of a row by its front, and rows with something written behind.
 use Rattle.std.proofs.Common.{◌≡◌, ℕ, suc, ◌+◌, ◌-◌, ◌<◌, ◌≤◌, List, [], ◌∷◌, ◌++◌, length, get_or, take, drop, set, sym, refl, ap, ◌∙◌, add-zero, arith}
-use Rattle.std.proofs.lemmas.List.{append_assoc, drop_more, length-append, length-take-le, length-drop, length_push, set-append_right, set_at, take-append-drop, take_at, take-take, drop_at}
-use Rattle.std.proofs.lemmas.Slice.{between_is}
-use Rattle.forms.specs.Rows.{part, Within, Written, Kept}
+use Rattle.std.proofs.lemmas.List.{append_assoc, drop_more, length-append, length-take, length-take-le, length-drop, length_push, set-append_right, set_at, take-append-drop, take_at, take-take, drop_at}
+use Rattle.std.proofs.lemmas.Slice.{between_is, between-put_mid, take-put_mid_below}
+use borrow.Rule.Slice.PartMut.{put_mid}
+use Rattle.std.specs.List.{copy_within}
+use Rattle.std.proofs.lemmas.List.Edits.{length-between}
+use Rattle.forms.specs.Rows.{part, Within, Written, Kept, Put}
 use Rattle.forms.specs.declared.span.Span.{Span}
 
 module _ {X : Type 0} where
@@ -69,6 +72,36 @@ module _ {X : Type 0} where
 
   pub part_written_at : (s : Span) (at : ℕ) (base out row : List X) → s.from ≡ at → s.to ≡ at + length out → Written at base out row → part s row ≡ out
   part_written_at s at base out row p q w = rw (p, q) (part_written at base out row w)
+
+  pub put_written : (s : Span) (at : ℕ) (base out row : List X) → s.from ≡ at → s.to ≡ at + length out → Written at base out row → Put at base out row s
+  put_written s at base out row p q w = record { from = p; to = q; is = part_written_at s at base out row p q w; kept = written_kept at base out row w }
+
+  length_inside : (s : Span) (row : List X) → Within s (length row) → length (part s row) ≡ s.to - s.from
+  length_inside s row i = length-between row s.from s.to i.below
+
+  pub length_within : (s : Span) (at : ℕ) (row : List X) → Within s (length row) → at + (s.to - s.from) ≡ at + length (part s row)
+  length_within s at row i = ap (λ n. at + n) (sym (length_inside s row i))
+
+  pub written_copy : (s : Span) (at : ℕ) (base row : List X) → Within s (length base) → at + (s.to - s.from) ≤ length base → row ≡ copy_within base s.from s.to at → Written at base (part s base) row
+  written_copy s at base row i room e =
+      let n = length_inside s base i in
+      record {
+        fits = rw n room;
+        is = e ∙ append_assoc (take at base) (part s base) (drop (at + (s.to - s.from)) base) ∙ ap (λ k. take at base ++ (part s base ++ drop k base)) (length_within s at base i);
+      }
+
+  -- a list of the same length, written over a part
+  pub put_over : (s : Span) (at : ℕ) (base out row ys : List X) → Put at base out row s → length out ≡ length ys → at + length out ≤ length base → Put at base ys (put_mid s.from (s.to - s.from) row ys) s
+  put_over s at base out row ys p n room =
+      let f = p.from in
+      let t = p.to in
+      let l = p.kept.long in
+      record {
+        from = f;
+        to = omega arith;
+        is = between-put_mid s.from (s.to - s.from) row ys s.to (omega arith) (omega arith);
+        kept = record { long = simp (length-append, length-take, length-drop) (omega arith); same = take-put_mid_below s.from (s.to - s.from) row ys at (omega arith) (omega arith) ∙ p.kept.same };
+      }
 
   pub kept_then : (n m : ℕ) (xs ys zs : List X) → n ≤ m → Kept n xs ys → Kept m ys zs → Kept n xs zs
   kept_then n m xs ys zs le a b = record {

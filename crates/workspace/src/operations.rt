@@ -198,7 +198,7 @@ pub fn variable<D: Domain>(row: &mut [Term<D>], lens: &mut Lengths, code: u8, to
         lens,
         Term {
             coefficient: D::one(),
-            monomial: Monomial::of(code),
+            monomial: Monomial::from(code),
         },
         to,
     );

@@ -10,5 +10,5 @@ returns g c =
     let F = slots c.args.lens.now.of c.args.row.now in
     record {
       ready = c.single.ensures.ready;
-      forms = c.single.ensures.forms ∙ ap (set F c.args.to) ((λ i. unless_zero o (record { coefficient = c.one.ensures i; monomial = c.of.ensures i }) []) ∙ sym (variable_is o c.args.code));
+      forms = c.single.ensures.forms ∙ ap (set F c.args.to) ((λ i. unless_zero o (record { coefficient = c.one.ensures i; monomial = c.from.ensures i }) []) ∙ sym (variable_is o c.args.code));
     }
