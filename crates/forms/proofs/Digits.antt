@@ -1,10 +1,9 @@
 -- Steps of the loops over the codes of a word.
-use Rattle.std.proofs.Common.{◌≡◌, ℕ, zero, suc, ◌+◌, ◌-◌, ◌*◌, ◌^◌, ◌<◌, ◌≤◌, max, eqb, leb, [], ◌∷◌, add-one, pow-suc, arith}
+use Rattle.std.proofs.Common.{◌≡◌, ℕ, suc, ◌+◌, ◌-◌, ◌*◌, ◌^◌, ◌<◌, ◌≤◌, max, [], ◌∷◌, add-one, pow-suc, arith}
 use Rattle.std.specs.List.{fold}
-use Rattle.std.proofs.lemmas.Bool.{cond-true, cond-false, eq-eqb, ne_eqb, le-leb, lt-leb}
+use Rattle.std.proofs.lemmas.Bool.{eq-eqb, ne_eqb, le-leb, lt-leb}
 use Rattle.forms.specs.Forms.{Form, top}
-use Rattle.forms.specs.declared.monomial.Monomial.{Monomial}
-use Rattle.forms.specs.Monomials.{K, degree, first, rest, filled, merged_codes}
+use Rattle.forms.specs.Monomials.{degree, first, rest, filled, merged_codes}
 
 pub filled_empty : (k i w : ℕ) → i < k → first k w ≡ 0 → filled k (k - i) w ≡ filled k (k - (i + 1)) (rest k w)
 filled_empty k i w h e = let s : k - i ≡ suc (k - (i + 1)) = omega arith in rw (s, eq-eqb (first k w) 0 e) (omega arith)
@@ -21,26 +20,12 @@ merged_left k i x y out h l = let s : k - i ≡ suc (k - (i + 1)) = omega arith 
 pub merged_right : (k i x y out : ℕ) → i < k → first k x < first k y → merged_codes k (k - i) x y out ≡ merged_codes k (k - (i + 1)) x (rest k y) (out * 256 + first k y)
 merged_right k i x y out h l = let s : k - i ≡ suc (k - (i + 1)) = omega arith in rw (s, lt-leb (first k y) (first k x) l)
 
-pub filled_few : (k r w : ℕ) → filled k r w ≤ r
-filled_few k zero w = omega arith
-filled_few k (suc r) w =
-    let ih = filled_few k r (rest k w) in
-    Rattle.std.proofs.lemmas.Bool.cond_both (eqb (first k w) 0) 0 1 (λ b. b + filled k r (rest k w) ≤ suc r) (λ _. omega arith) (λ _. omega arith)
-
 pub merged_end : (k i x y out : ℕ) → k ≤ i → merged_codes k (k - i) x y out ≡ out
 merged_end k i x y out h = let e : k - i ≡ 0 = omega arith in rw e
 
 -- a number of i digits with one digit more behind it
 pub digit_more : (i out c : ℕ) → out < 256 ^ i → c < 256 → out * 256 + c < 256 ^ (i + 1)
 digit_more i out c small low = rw (add-one, pow-suc) (omega arith)
-
-degree_few : (m : Monomial) → degree m ≤ K
-unfolding degree
-degree_few m = filled_few K K m.0
-
-pub top_few : {D : Type 0} (p : Form D) → top p ≤ K
-top_few [] = omega arith
-top_few (t ∷ p) = let a = degree_few t.monomial in let b = top_few p in omega arith
 
 -- the largest degree, as a fold takes it
 top_from : {D : Type 0} (p : Form D) (a : ℕ) → fold (λ n t. max n (degree t.monomial)) a p ≡ max a (top p)

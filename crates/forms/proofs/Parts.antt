@@ -108,3 +108,8 @@ module _ {X : Type 0} where
     long = b.long ∙ a.long;
     same = sym (take-take n m zs le) ∙ ap (take n) b.same ∙ take-take n m ys le ∙ a.same;
   }
+
+-- the front of a part, read in a row that is kept below `at`
+pub step_kept : {X : Type 0} (at : ℕ) (base row : List X) (s : Span) (t : X) → Kept at base row → Within s at → Within (record { from = s.from + 1; to = s.to }) at → s.from < s.to → s.to ≤ length row → t ≡ get_or row s.from t → part s base ≡ t ∷ part (record { from = s.from + 1; to = s.to }) base
+step_kept at base row s t k i j some inside read =
+    sym (part_kept s at base row i k) ∙ part_front s row t some inside read ∙ ap (λ r. t ∷ r) (part_kept (record { from = s.from + 1; to = s.to }) at base row j k)

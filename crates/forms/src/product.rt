@@ -28,7 +28,7 @@ pub fn scale<D: Domain>(row: &mut [Term<D>], x: Term<D>, b: Span, at: usize) -> 
     ensures { Put at row.old (scaled D.ops x (part b row.old)) row.new result }
 {
     let (below, target) = row.split_at_mut(at);
-    let source: &[Term<D>] = below;
+    let source = &*below;
     let mut n = 0;
     for y in &source[b.from..b.to] {
         let t = x.times(*y);

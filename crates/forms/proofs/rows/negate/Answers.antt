@@ -1,6 +1,6 @@
-use Rattle.std.proofs.Common.{◌≡◌, ◌++◌, ◌≤◌, take, drop, length, sym, ap, ◌∙◌, arith}
+use Rattle.std.proofs.Common.{◌≡◌, ◌++◌, ◌≤◌, take, length, sym, ap, ◌∙◌, arith}
 use Rattle.std.proofs.lemmas.List.{append-nil, drop_all, take_all}
-use Rattle.forms.specs.Rows.{part, Put}
+use Rattle.forms.specs.Rows.{part}
 use Rattle.forms.specs.Forms.{negation}
 use Rattle.forms.proofs.Parts.{put_over}
 use Rattle.forms.proofs.rows.negate.Goals as goal
