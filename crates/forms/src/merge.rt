@@ -29,6 +29,7 @@ fn next<'a, D: Domain>(
     q: &'a [Term<D>],
 ) -> (Option<Term<D>>, &'a [Term<D>], &'a [Term<D>])
     ensures sum { added D.ops p.now q.now ≡ option_to_list result.0 ++ added D.ops result.1.now result.2.now }
+    ensures room { length (option_to_list result.0) + (length result.1.now + length result.2.now) ≤ length p.now + length q.now }
     ensures less { 0 < length p.now + length q.now → length result.1.now + length result.2.now < length p.now + length q.now }
 {
     match (p, q) {
