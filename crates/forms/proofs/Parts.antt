@@ -4,8 +4,6 @@ use Rattle.std.proofs.lemmas.List.{append_assoc, append-nil, drop_more, length-a
 use Rattle.std.proofs.lemmas.Grind.{take-set_at}
 use Rattle.std.proofs.lemmas.Slice.{between_is, between-put_mid, take-put_mid_below}
 use borrow.Rule.Slice.PartMut.{put_mid}
-use Rattle.std.specs.List.{copy_within}
-use Rattle.std.proofs.lemmas.List.Edits.{length-between}
 use Rattle.forms.specs.Rows.{part, Within, Written, Kept, Put}
 use Rattle.forms.specs.declared.span.Span.{Span}
 
@@ -79,23 +77,6 @@ module _ {X : Type 0} where
 
   pub part_written_at : (s : Span) (at : ℕ) (base out row : List X) → s.from ≡ at → s.to ≡ at + length out → Written at base out row → part s row ≡ out
   part_written_at s at base out row p q w = rw (p, q) (part_written at base out row w)
-
-  pub put_written : (s : Span) (at : ℕ) (base out row : List X) → s.from ≡ at → s.to ≡ at + length out → Written at base out row → Put at base out row s
-  put_written s at base out row p q w = record { from = p; to = q; is = part_written_at s at base out row p q w; kept = written_kept at base out row w }
-
-  length_inside : (s : Span) (row : List X) → Within s (length row) → length (part s row) ≡ s.to - s.from
-  length_inside s row i = length-between row s.from s.to i.below
-
-  pub length_within : (s : Span) (at : ℕ) (row : List X) → Within s (length row) → at + (s.to - s.from) ≡ at + length (part s row)
-  length_within s at row i = ap (λ n. at + n) (sym (length_inside s row i))
-
-  pub written_copy : (s : Span) (at : ℕ) (base row : List X) → Within s (length base) → at + (s.to - s.from) ≤ length base → row ≡ copy_within base s.from s.to at → Written at base (part s base) row
-  written_copy s at base row i room e =
-      let n = length_inside s base i in
-      record {
-        fits = rw n room;
-        is = e ∙ append_assoc (take at base) (part s base) (drop (at + (s.to - s.from)) base) ∙ ap (λ k. take at base ++ (part s base ++ drop k base)) (length_within s at base i);
-      }
 
   -- a list of the same length, written over a part
   pub put_over : (s : Span) (at : ℕ) (base out row ys : List X) → Put at base out row s → length out ≡ length ys → at + length out ≤ length base → Put at base ys (put_mid s.from (s.to - s.from) row ys) s

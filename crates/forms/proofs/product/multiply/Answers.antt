@@ -1,4 +1,4 @@
-use Rattle.std.proofs.Common.{◌≡◌, arith}
+use Rattle.std.proofs.Common.{arith}
 use Rattle.forms.specs.Rows.{part}
 use Rattle.forms.proofs.Scaling.{length_scaled}
 use Rattle.forms.proofs.Turns.{length_part, step_back, turn, length_turn}
@@ -23,6 +23,3 @@ loop-i-preserved g c =
     let n = length_turn o c.args.at base x xs ys in
     let m = length_part c.args.b base in
     (rw e t, omega arith, rw e (omega arith))
-
-pub returns : goal.returns
-returns g c = let e : c.loop-i.i ≡ c.args.a.from = omega arith in rw e at c.loop-i.invariant.0
