@@ -1,6 +1,7 @@
 -- Steps of the loops over the codes of a word.
 use Rattle.std.proofs.Common.{◌≡◌, ℕ, suc, ◌+◌, ◌-◌, ◌*◌, ◌^◌, ◌<◌, ◌≤◌, max, [], ◌∷◌, add-one, pow-suc, arith}
 use Rattle.std.specs.List.{fold}
+use Rattle.std.proofs.Math.Nat.{pow-le-pow_right}
 use Rattle.std.proofs.lemmas.Bool.{eq-eqb, ne_eqb, le-leb, lt-leb}
 use Rattle.forms.specs.Forms.{Form, top}
 use Rattle.forms.specs.Monomials.{degree, first, rest, filled, merged_codes}
@@ -22,6 +23,10 @@ merged_right k i x y out h l = let s : k - i ≡ suc (k - (i + 1)) = omega arith
 
 pub merged_end : (k i x y out : ℕ) → k ≤ i → merged_codes k (k - i) x y out ≡ out
 merged_end k i x y out h = let e : k - i ≡ 0 = omega arith in rw e
+
+-- behind less than four codes a word has room for one more
+pub code_room : (i : ℕ) → i < 4 → 256 ^ i * 256 ≤ 256 ^ 4
+code_room i h = let e : 256 ^ suc i ≤ 256 ^ 4 = pow-le-pow_right {n = 256} (omega arith) {i = suc i} {j = 4} (omega arith) in rw (pow-suc 256 i) at e
 
 -- a number of i digits with one digit more behind it
 pub digit_more : (i out c : ℕ) → out < 256 ^ i → c < 256 → out * 256 + c < 256 ^ (i + 1)

@@ -1,5 +1,5 @@
 // The sum of two forms that stand in a row, written behind them.
-ghost use Rattle.std.specs.Prelude.{◌≡◌, ℕ, ◌+◌, ◌-◌, ◌<◌, ◌≤◌, ◌++◌, [], length};
+ghost use Rattle.std.specs.Prelude.{◌≡◌, ◌+◌, ◌-◌, ◌<◌, ◌≤◌, [], ◌++◌, length};
 ghost use Rattle.std.specs.Option.{option_to_list};
 ghost use Rattle.forms.specs.Rows.{part, Within, Put};
 ghost use Rattle.forms.specs.Forms.{added, unless_zero, term};

@@ -1,5 +1,5 @@
 // Monomials: words of codes that never rise from the top byte down; 0 is an empty code.
-ghost use Rattle.std.specs.Prelude.{◌≡◌, ◌<◌, ◌≤◌};
+ghost use Rattle.std.specs.Prelude.{◌≡◌, ◌≤◌};
 ghost use Rattle.forms.specs.Monomials.{K, degree, monomial_product, no_codes, one_code};
 
 // The number of codes.
@@ -39,7 +39,7 @@ impl Monomial {
             if word >> SHIFT != 0 {
                 count += 1;
             }
-            word = word << 8;
+            word <<= 8;
         }
         count
     }
@@ -56,10 +56,10 @@ impl Monomial {
             let d = y >> SHIFT;
             if d <= c {
                 out = out * 256 + c;
-                x = x << 8;
+                x <<= 8;
             } else {
                 out = out * 256 + d;
-                y = y << 8;
+                y <<= 8;
             }
         }
         Monomial(out)

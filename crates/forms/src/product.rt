@@ -1,5 +1,5 @@
 // The product of two forms that stand in a row.
-ghost use Rattle.std.specs.Prelude.{◌≡◌, ℕ, ◌+◌, ◌-◌, ◌*◌, ◌<◌, ◌≤◌, length};
+ghost use Rattle.std.specs.Prelude.{◌≡◌, ◌+◌, ◌-◌, ◌≤◌, length};
 ghost use Rattle.forms.specs.Rows.{part, Within, Put};
 ghost use Rattle.forms.specs.Forms.{term_product, scaled, multiplied};
 

@@ -1,5 +1,5 @@
 // Forms that are copied and negated within a row, and their degree.
-ghost use Rattle.std.specs.Prelude.{◌≡◌, ℕ, ◌+◌, ◌-◌, ◌*◌, ◌<◌, ◌≤◌, ◌⊎◌, length};
+ghost use Rattle.std.specs.Prelude.{◌≡◌, ◌+◌, ◌-◌, ◌≤◌, ◌⊎◌, length};
 ghost use Rattle.forms.specs.Monomials.{K};
 ghost use Rattle.forms.specs.Rows.{part, Within, Written, Put};
 ghost use Rattle.forms.specs.Forms.{negation, top};
