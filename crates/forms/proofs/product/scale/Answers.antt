@@ -1,17 +1,27 @@
-use Rattle.std.proofs.Common.{◌++◌, take, sym, ap, ◌∙◌, arith}
+use Rattle.std.proofs.Common.{◌≡◌, ◌+◌, ◌∷◌, drop, length-set, ◌++◌, take, sym, ap, ◌∙◌, arith}
 use Rattle.std.proofs.lemmas.List.{drop_all}
 use Rattle.std.proofs.lemmas.Grind.{common_steps}
 use Rattle.forms.specs.Rows.{part}
 use Rattle.forms.specs.Forms.{scaled}
-use Rattle.forms.proofs.Parts.{part_below, put_behind}
+use Rattle.forms.proofs.Parts.{part_below, put_behind, made_more}
 use Rattle.forms.proofs.product.scale.Goals as goal
 use Rattle.forms.proofs.product.scale.Goals.{then-not-same, else-not-same}
 
 pub loop-y-preserved : goal.loop-y-preserved
-loop-y-preserved g c = elim c.if-not-same.branch [
-  | then-not-same w ↦ simp (w.target-is, w.n-is) (grind (arith, common_steps))
-  | else-not-same w ↦ simp (w.target-is, w.n-is) (grind (arith, common_steps))
-]
+loop-y-preserved g c =
+    let o = g.D.Domain.ops in
+    let l = c.loop-y in
+    let x = c.args.x in
+    let t = c.times-t.result in
+    let ys = part c.args.b c.split_at_mut-below.result.0.now in
+    elim c.if-not-same.branch [
+      | then-not-same w ↦
+          let e : scaled o x (drop l.y-index ys) ≡ t ∷ scaled o x (drop (l.y-index + 1) ys) = grind (arith, common_steps) in
+          simp (w.target-is, w.n-is) (made_more l.n l.target _ _ _ t l.invariant.0 e (omega arith), omega arith, simp length-set (omega arith))
+      | else-not-same w ↦
+          let e : scaled o x (drop l.y-index ys) ≡ scaled o x (drop (l.y-index + 1) ys) = grind (arith, common_steps) in
+          simp (w.target-is, w.n-is) (ap (λ r. take l.n l.target ++ r) (sym e) ∙ l.invariant.0, omega arith, omega arith)
+    ]
 
 pub returns : goal.returns
 returns g c =
