@@ -6,11 +6,11 @@ ghost use Rattle.domain.specs.ByteLaws.{byte_laws};
 use crate::byte::Byte;
 use crate::{Domain, fips};
 
-impl Byte {
-    // The byte with this value, which is that of each number that leaves it modulo 256.
-    pub fn of(value: u8) -> Byte
-        ensures { (n : ℕ) → n % 256 ≡ value → result ≡ byte_of n }
-    {
+// The byte with this value, which is that of each number that leaves it modulo 256.
+impl From<u8> for Byte {
+    ghost from_gives = { λ value b. (n : ℕ) → n % 256 ≡ value → b ≡ byte_of n };
+
+    fn from(value: u8) -> Byte {
         Byte { value }
     }
 }
@@ -21,19 +21,19 @@ impl Domain for Byte {
     ghost ring = { byte_laws };
 
     fn zero() -> Byte {
-        Byte::of(0)
+        Byte::from(0)
     }
 
     fn one() -> Byte {
-        Byte::of(1)
+        Byte::from(1)
     }
 
     fn constant(n: u32) -> Byte {
-        Byte::of((n % 256) as u8)
+        Byte::from((n % 256) as u8)
     }
 
     fn add(self, other: Byte) -> Byte {
-        Byte::of(self.value ^ other.value)
+        Byte::from(self.value ^ other.value)
     }
 
     fn neg(self) -> Byte {
@@ -41,11 +41,11 @@ impl Domain for Byte {
     }
 
     fn mul(self, other: Byte) -> Byte {
-        Byte::of(fips::product(self.value, other.value))
+        Byte::from(fips::product(self.value, other.value))
     }
 
     fn same(self, other: Byte) -> bool {
-        self.value == other.value
+        self == other
     }
 
     fn below(self, other: Byte) -> bool {

@@ -6,11 +6,11 @@ ghost use Rattle.domain.specs.WordLaws.{word_laws};
 use crate::Domain;
 use crate::word::Word;
 
-impl Word {
-    // The word with these bits, which is that of each number that leaves them modulo 2^32.
-    pub fn of(bits: u32) -> Word
-        ensures { (n : ℕ) → n % 2 ^ 32 ≡ bits → result ≡ word_of n }
-    {
+// The word with these bits, which is that of each number that leaves them modulo 2^32.
+impl From<u32> for Word {
+    ghost from_gives = { λ bits w. (n : ℕ) → n % 2 ^ 32 ≡ bits → w ≡ word_of n };
+
+    fn from(bits: u32) -> Word {
         Word { bits }
     }
 }
@@ -21,31 +21,31 @@ impl Domain for Word {
     ghost ring = { word_laws };
 
     fn zero() -> Word {
-        Word::of(0)
+        Word::from(0)
     }
 
     fn one() -> Word {
-        Word::of(1)
+        Word::from(1)
     }
 
     fn constant(n: u32) -> Word {
-        Word::of(n)
+        Word::from(n)
     }
 
     fn add(self, other: Word) -> Word {
-        Word::of(self.bits.wrapping_add(other.bits))
+        Word::from(self.bits.wrapping_add(other.bits))
     }
 
     fn neg(self) -> Word {
-        Word::of(0u32.wrapping_sub(self.bits))
+        Word::from(0u32.wrapping_sub(self.bits))
     }
 
     fn mul(self, other: Word) -> Word {
-        Word::of(self.bits.wrapping_mul(other.bits))
+        Word::from(self.bits.wrapping_mul(other.bits))
     }
 
     fn same(self, other: Word) -> bool {
-        self.bits == other.bits
+        self == other
     }
 
     // in two's complement

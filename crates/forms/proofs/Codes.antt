@@ -79,7 +79,7 @@ times_rises [] m n = refl
 times_rises (c ∷ x) m n = insert_rises c (times x m) (times x n) ∙ times_rises x m n
 
 -- the product as a merge: the larger head first
-insert_top : (c : ℕ) (m : List ℕ) → Codes c m → insert c m ≡ c ∷ m
+pub insert_top : (c : ℕ) (m : List ℕ) → Codes c m → insert c m ≡ c ∷ m
 insert_top c [] h = refl
 insert_top c (d ∷ m) h = insert_high c d m h.1
 

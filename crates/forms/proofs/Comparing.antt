@@ -1,6 +1,7 @@
 -- Comparison of forms decides their equality.
-use Rattle.std.proofs.Common.{◌≡◌, Bool, true, false, eqb, [], ◌∷◌, Decides, sym, refl, ap, ◌∙◌, ap₂}
+use Rattle.std.proofs.Common.{◌≡◌, Bool, true, eqb, [], ◌∷◌, Decides, sym, refl, ap, ◌∙◌, ap₂}
 use Rattle.std.proofs.lemmas.Bool.{and_parts, and_from, eqb-true, eq-eqb}
+use Rattle.std.proofs.lemmas.Bool.Decides.{same_from_decides}
 use Rattle.domain.specs.Ring.{Ops, Laws}
 use Rattle.forms.specs.declared.term.Term.{Term}
 use Rattle.forms.specs.Forms.{Form, same_term, same_form}
@@ -30,9 +31,4 @@ module _ {D : Type 0} {o : Ops D} (laws : Laws o) where
 
   -- whatever decides the equality says what the comparison says
   pub same_by : (b : Bool) (p q : Form D) → Decides b (p ≡ q) → b ≡ same_form o p q
-  same_by b p q d = go b (same_form o p q) d (same_form_eq p q) (λ e. ap (same_form o p) (sym e) ∙ eq_same_form p)
-    where
-      go : (b c : Bool) → Decides b (p ≡ q) → (c ≡ true → p ≡ q) → (p ≡ q → c ≡ true) → b ≡ c
-      go true c d f g = sym (g (d.0 refl))
-      go false true d f g = d.1 (f refl)
-      go false false d f g = refl
+  same_by b p q d = same_from_decides b (same_form o p q) d (same_form_eq p q, λ e. ap (same_form o p) (sym e) ∙ eq_same_form p)

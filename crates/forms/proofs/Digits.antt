@@ -1,54 +1,41 @@
 -- Steps of the loops over the codes of a word.
-use Rattle.std.proofs.Common.{◌≡◌, ℕ, zero, suc, ◌+◌, ◌-◌, ◌*◌, ◌^◌, ◌<◌, ◌≤◌, eqb, leb, [], ◌∷◌, pow-suc, arith}
-use Rattle.std.proofs.lemmas.Bool.{cond-true, cond-false, eq-eqb, ne_eqb, le-leb, lt-leb}
+use Rattle.std.proofs.Common.{◌≡◌, ℕ, suc, ◌+◌, ◌-◌, ◌*◌, ◌^◌, ◌<◌, ◌≤◌, max, [], ◌∷◌, add-one, pow-suc, arith}
+use Rattle.std.specs.List.{fold}
+use Rattle.std.proofs.Math.Nat.{pow-le-pow_right}
+use Rattle.std.proofs.lemmas.Bool.{eq-eqb, ne_eqb, le-leb, lt-leb}
 use Rattle.forms.specs.Forms.{Form, top}
-use Rattle.forms.specs.declared.monomial.Monomial.{Monomial}
-use Rattle.forms.specs.Monomials.{K, degree, first, rest, filled, merged_codes}
+use Rattle.forms.specs.Monomials.{degree, first, rest, filled, merged_codes}
 
-less_one : (r : ℕ) → suc r - 1 ≡ r
-less_one r = omega arith
+pub filled_empty : (k i w : ℕ) → i < k → first k w ≡ 0 → filled k (k - i) w ≡ filled k (k - (i + 1)) (rest k w)
+filled_empty k i w h e = let s : k - i ≡ suc (k - (i + 1)) = omega arith in rw (s, eq-eqb (first k w) 0 e) (omega arith)
 
-pub filled_empty : (k r w : ℕ) → 0 < r → first k w ≡ 0 → filled k r w ≡ filled k (r - 1) (rest k w)
-filled_empty k zero w pos e = absurd (omega arith)
-filled_empty k (suc r) w pos e =
-    let c = cond-true {A = ℕ} (eqb (first k w) 0) 0 1 (eq-eqb (first k w) 0 e) in
-    rw (less_one r) (omega arith)
+pub filled_more : (k i w : ℕ) → i < k → (first k w ≡ 0 → ⊥) → filled k (k - i) w ≡ 1 + filled k (k - (i + 1)) (rest k w)
+filled_more k i w h e = let s : k - i ≡ suc (k - (i + 1)) = omega arith in rw (s, ne_eqb (first k w) 0 e) (omega arith)
 
-pub filled_more : (k r w : ℕ) → 0 < r → (first k w ≡ 0 → ⊥) → filled k r w ≡ 1 + filled k (r - 1) (rest k w)
-filled_more k zero w pos e = absurd (omega arith)
-filled_more k (suc r) w pos e =
-    let c = cond-false {A = ℕ} (eqb (first k w) 0) 0 1 (ne_eqb (first k w) 0 e) in
-    rw (less_one r) (omega arith)
+pub filled_end : (k i w : ℕ) → k ≤ i → filled k (k - i) w ≡ 0
+filled_end k i w h = let e : k - i ≡ 0 = omega arith in rw e
 
-pub merged_left : (k r x y out : ℕ) → 0 < r → first k y ≤ first k x → merged_codes k r x y out ≡ merged_codes k (r - 1) (rest k x) y (out * 256 + first k x)
-merged_left k zero x y out pos l = absurd (omega arith)
-merged_left k (suc r) x y out pos l = rw (less_one r) (cond-true (leb (first k y) (first k x)) _ _ (le-leb (first k y) (first k x) l))
+pub merged_left : (k i x y out : ℕ) → i < k → first k y ≤ first k x → merged_codes k (k - i) x y out ≡ merged_codes k (k - (i + 1)) (rest k x) y (out * 256 + first k x)
+merged_left k i x y out h l = let s : k - i ≡ suc (k - (i + 1)) = omega arith in rw (s, le-leb (first k y) (first k x) l)
 
-pub merged_right : (k r x y out : ℕ) → 0 < r → first k x < first k y → merged_codes k r x y out ≡ merged_codes k (r - 1) x (rest k y) (out * 256 + first k y)
-merged_right k zero x y out pos l = absurd (omega arith)
-merged_right k (suc r) x y out pos l = rw (less_one r) (cond-false (leb (first k y) (first k x)) _ _ (lt-leb (first k y) (first k x) l))
+pub merged_right : (k i x y out : ℕ) → i < k → first k x < first k y → merged_codes k (k - i) x y out ≡ merged_codes k (k - (i + 1)) x (rest k y) (out * 256 + first k y)
+merged_right k i x y out h l = let s : k - i ≡ suc (k - (i + 1)) = omega arith in rw (s, lt-leb (first k y) (first k x) l)
 
-pub filled_few : (k r w : ℕ) → filled k r w ≤ r
-filled_few k zero w = omega arith
-filled_few k (suc r) w =
-    let ih = filled_few k r (rest k w) in
-    Rattle.std.proofs.lemmas.Bool.cond_both (eqb (first k w) 0) 0 1 (λ b. b + filled k r (rest k w) ≤ suc r) (λ _. omega arith) (λ _. omega arith)
+pub merged_end : (k i x y out : ℕ) → k ≤ i → merged_codes k (k - i) x y out ≡ out
+merged_end k i x y out h = let e : k - i ≡ 0 = omega arith in rw e
 
--- a number of k - r digits with one digit more behind it
-pub digit_more : (k r out c : ℕ) → 0 < r → r ≤ k → out < 256 ^ (k - r) → c < 256 → out * 256 + c < 256 ^ (k - (r - 1))
-digit_more k r out c pos le small low =
-    let e : k - (r - 1) ≡ suc (k - r) = omega arith in
-    rw (e, pow-suc) (omega arith)
+-- behind less than four codes a word has room for one more
+pub code_room : (i : ℕ) → i < 4 → 256 ^ i * 256 ≤ 256 ^ 4
+code_room i h = let e : 256 ^ suc i ≤ 256 ^ 4 = pow-le-pow_right {n = 256} (omega arith) {i = suc i} {j = 4} (omega arith) in rw (pow-suc 256 i) at e
 
-pub pow_up : (a b : ℕ) → a ≤ b → 256 ^ a ≤ 256 ^ b
-pow_up a zero h = let e : a ≡ 0 = omega arith in rw e (omega arith)
-pow_up zero (suc b) h = let ih = pow_up 0 b (omega arith) in rw pow-suc (omega arith)
-pow_up (suc a) (suc b) h = let ih = pow_up a b (omega arith) in rw pow-suc (omega arith)
+-- a number of i digits with one digit more behind it
+pub digit_more : (i out c : ℕ) → out < 256 ^ i → c < 256 → out * 256 + c < 256 ^ (i + 1)
+digit_more i out c small low = rw (add-one, pow-suc) (omega arith)
 
-degree_few : (m : Monomial) → degree m ≤ K
-unfolding degree
-degree_few m = filled_few K K m.0
+-- the largest degree, as a fold takes it
+top_from : {D : Type 0} (p : Form D) (a : ℕ) → fold (λ n t. max n (degree t.monomial)) a p ≡ max a (top p)
+top_from [] a = omega arith
+top_from (t ∷ p) a = let ih = top_from p (max a (degree t.monomial)) in omega arith
 
-pub top_few : {D : Type 0} (p : Form D) → top p ≤ K
-top_few [] = omega arith
-top_few (t ∷ p) = let a = degree_few t.monomial in let b = top_few p in omega arith
+pub top_fold : {D : Type 0} (p : Form D) → fold (λ n t. max n (degree t.monomial)) 0 p ≡ top p
+top_fold p = let e = top_from p 0 in omega arith

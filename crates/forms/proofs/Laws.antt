@@ -1,6 +1,7 @@
 -- The values of the forms that the operations give.
-use Rattle.std.proofs.Common.{◌≡◌, ℕ, zero, suc, ◌+◌, ◌-◌, ◌*◌, ◌^◌, ◌<◌, ◌≤◌, Bool, true, false, cond, eqb, ltb, leb, List, [], ◌∷◌, length, Some, None, Option, sym, refl, ap, ◌∙◌, subst, arith}
+use Rattle.std.proofs.Common.{◌≡◌, ℕ, zero, suc, ◌+◌, ◌-◌, ◌*◌, ◌^◌, ◌<◌, ◌≤◌, eqb, ltb, leb, List, [], ◌∷◌, length, Some, None, sym, refl, ap, ◌∙◌, subst, arith}
 use Rattle.std.specs.List.{AllByRecursion as All}
+use Rattle.std.proofs.lemmas.Option.{cond_some, none-some}
 use Rattle.std.proofs.lemmas.Bool.{cond_both, cond-true, cond-false, le-leb, lt-leb, leb-true, ltb-true, eqb-true}
 use Rattle.domain.specs.Ring.{Ops, Laws}
 use Rattle.domain.proofs.Rings.{one_mul, mul_left_comm}
@@ -41,7 +42,7 @@ unfolding product
 product_some o p q r e =
     cond_both (leb (top p + top q) K) (limit (multiplied o p q)) None (λ x. x ≡ Some r → (top p + top q ≤ K) × (limit (multiplied o p q) ≡ Some r))
     (λ h k. (leb-true (top p + top q) K h, k))
-    (λ h k. let z : ◌≡◌ {A = ℕ} 0 1 = cc in absurd (omega arith)) e
+    (λ h k. absurd (none-some r k)) e
 
 module _ {D : Type 0} (o : Ops D) where
   one_normal : (c : D) (w : ℕ) → Packed K w → Normal o (unless_zero o (record { coefficient = c; monomial = record { 0 = w } }) [])
@@ -125,13 +126,9 @@ module _ {D : Type 0} {o : Ops D} (laws : Laws o) where
   input_value : (n : ℕ) (inputs symbols : ℕ → D) → variables inputs symbols (input_code n) ≡ inputs n
   input_value n i s = let e : 33 + n - 33 ≡ n = omega arith in cond-false (leb (33 + n) 32) (s (33 + n - 1)) (i (33 + n - 33)) (lt-leb (33 + n) 32 (omega arith)) ∙ ap i e
 
-  some_of : (b : Bool) (x p : Form D) → cond b (Some x) None ≡ Some p → (b ≡ true) × (x ≡ p)
-  some_of true x p e = (refl, cc)
-  some_of false x p e = let z : ◌≡◌ {A = ℕ} 0 1 = cc in absurd (omega arith)
-
   pub symbol_worth : (n : ℕ) (p : Form D) → symbol_form o n ≡ Some p → Worth o p (λ inputs symbols. symbols n)
   symbol_worth n p e =
-      let a = some_of (ltb n 32) (variable o (symbol_code n)) p e in
+      let a = cond_some (ltb n 32) (variable o (symbol_code n)) p e in
       let l = ltb-true n 32 a.0 in
       subst (λ q. Worth o q (λ inputs symbols. symbols n)) a.1 (record {
         normal = variable_normal o (1 + n) (omega arith) (omega arith);
@@ -141,7 +138,7 @@ module _ {D : Type 0} {o : Ops D} (laws : Laws o) where
 
   pub input_worth : (n : ℕ) (p : Form D) → input_form o n ≡ Some p → Worth o p (λ inputs symbols. inputs n)
   input_worth n p e =
-      let a = some_of (ltb n 8) (variable o (input_code n)) p e in
+      let a = cond_some (ltb n 8) (variable o (input_code n)) p e in
       let l = ltb-true n 8 a.0 in
       subst (λ q. Worth o q (λ inputs symbols. inputs n)) a.1 (record {
         normal = variable_normal o (33 + n) (omega arith) (omega arith);
@@ -182,16 +179,12 @@ module _ {D : Type 0} {o : Ops D} (laws : Laws o) where
   fixed_value : (p : Form D) (v : D) → fixed o p ≡ Some v → (inputs symbols : ℕ → D) → value o inputs symbols p ≡ v
   fixed_value [] v e i s = cc
   fixed_value (t ∷ []) v e i s =
-      let P : Option D → Type 0 = λ a. a ≡ Some v → value o i s (t ∷ []) ≡ v in
-      cond_both (eqb t.monomial.0 0) (Some t.coefficient) None P
-      (λ q h.
-      let z = eqb-true t.monomial.0 0 q in
-      let k : t.coefficient ≡ v = cc in
+      let a = cond_some (eqb t.monomial.0 0) t.coefficient v e in
+      let z = eqb-true t.monomial.0 0 a.0 in
       ap (λ w. o.add (o.mul t.coefficient (power o (variables i s) (unpack K w))) o.zero) z
       ∙ ap (λ m. o.add (o.mul t.coefficient (power o (variables i s) m)) o.zero) (unpack_zero K)
-      ∙ laws.add_zero (o.mul t.coefficient o.one) ∙ laws.mul_one t.coefficient ∙ k)
-      (λ q h. let z : ◌≡◌ {A = ℕ} 0 1 = cc in absurd (omega arith)) e
-  fixed_value (t ∷ (u ∷ p)) v e i s = let z : ◌≡◌ {A = ℕ} 0 1 = cc in absurd (omega arith)
+      ∙ laws.add_zero (o.mul t.coefficient o.one) ∙ laws.mul_one t.coefficient ∙ a.1
+  fixed_value (t ∷ (u ∷ p)) v e i s = absurd (none-some v e)
 
   pub lawful : Lawful o
   lawful = record {

@@ -1,7 +1,5 @@
 pub mod Parts
-pub mod Sums
 pub mod Scaling
-pub mod Making
 pub mod Turns
 pub mod Comparing
 pub mod Digits

@@ -7,7 +7,7 @@ use Rattle.forms.specs.Monomials.{K, Codes, Packed, insert, times, pack, unpack,
 use Rattle.forms.specs.declared.monomial.Monomial.{Monomial}
 use Rattle.forms.specs.Theorems.{MonomialFacts, CodeFacts}
 use Rattle.forms.proofs.Packing.{codes_up, pack_lt, pack_none, unpack_pack, unpacked, pack_order, times_codes, times_length}
-use Rattle.forms.proofs.Codes.{times_left, times_right, times_rises, count_times, apart}
+use Rattle.forms.proofs.Codes.{insert_top, times_left, times_right, times_rises, count_times, apart}
 
 -- words by codes
 abbrev pub first_code : List ℕ → ℕ
@@ -39,11 +39,7 @@ pack_others k b (c ∷ m) l h s =
 
 times_none : (b : ℕ) (m : List ℕ) → Codes b m → times m [] ≡ m
 times_none b [] h = refl
-times_none b (c ∷ m) h = ap (insert c) (times_none c m h.2) ∙ top_in c m h.2
-  where
-    top_in : (c : ℕ) (m : List ℕ) → Codes c m → insert c m ≡ c ∷ m
-    top_in c [] h = refl
-    top_in c (d ∷ m) h = cond-true (leb d c) (c ∷ (d ∷ m)) (d ∷ insert c m) (le-leb d c h.1)
+times_none b (c ∷ m) h = ap (insert c) (times_none c m h.2) ∙ insert_top c m h.2
 
 -- the product's next code is the larger first code
 pub merge_left : (k b : ℕ) (m n : List ℕ) → Codes b m → Codes b n → first_code n ≤ first_code m → pack (suc k) (times m n) ≡ first_code m * 256 ^ k + pack k (times (other_codes m) n)

@@ -1,6 +1,7 @@
 -- The operations make normal forms of normal forms.
-use Rattle.std.proofs.Common.{◌≡◌, ℕ, suc, ◌+◌, ◌<◌, ◌≤◌, Bool, true, false, ltb, leb, List, [], ◌∷◌, length, Some, None, sym, refl, ap, ◌∙◌, arith}
-use Rattle.std.proofs.lemmas.Bool.{both_ways, cond_both, ltb-true, ltb-false, leb-true}
+use Rattle.std.proofs.Common.{◌≡◌, ℕ, suc, ◌+◌, ◌<◌, ◌≤◌, false, ltb, leb, List, [], ◌∷◌, length, Some, sym, refl, ap, ◌∙◌, arith}
+use Rattle.std.proofs.lemmas.Option.{cond_some}
+use Rattle.std.proofs.lemmas.Bool.{both_ways, cond_both, false_from_ne_true, ltb-true, ltb-false, leb-true}
 use Rattle.domain.specs.Ring.{Ops, Laws}
 use Rattle.domain.proofs.Rings.{neg_neg, neg_zero}
 use Rattle.forms.specs.declared.term.Term.{Term}
@@ -60,14 +61,10 @@ module _ {D : Type 0} (o : Ops D) where
       let dx = degree_packed x.monomial n.1 in
       (added_normal (scaled o x q) (multiplied o p q) (scaled_normal d d' x q h n.1 (omega arith) m t').0 (multiplied_normal d d' p q h n.3 m (omega arith) t')).0
 
-is_false : (b : Bool) → (b ≡ true → ⊥) → b ≡ false
-is_false true h = absurd (h refl)
-is_false false h = refl
-
 module _ {D : Type 0} {o : Ops D} (laws : Laws o) where
   neg_some : (c : D) → o.same c o.zero ≡ false → o.same (o.neg c) o.zero ≡ false
   neg_some c e =
-      is_false (o.same (o.neg c) o.zero)
+      false_from_ne_true (o.same (o.neg c) o.zero)
       (λ q.
       let z : c ≡ o.zero = sym (neg_neg laws c) ∙ ap o.neg (laws.same_yes (o.neg c) o.zero q) ∙ neg_zero laws in
       both_ways (o.same c o.zero) e (ap (λ x. o.same x o.zero) z ∙ laws.same_refl o.zero))
@@ -83,9 +80,9 @@ module _ {D : Type 0} {o : Ops D} (laws : Laws o) where
 -- what is within the limits is the result itself
 pub limit_some : {X : Type 0} (p r : List X) → limit p ≡ Some r → (p ≡ r) × (length r ≤ 16)
 limit_some p r e =
-    cond_both (leb (length p) 16) (Some p) None (λ x. x ≡ Some r → (p ≡ r) × (length r ≤ 16))
-    (λ h q. let k : p ≡ r = cc in (k, let l = leb-true (length p) 16 h in rw (← k) l))
-    (λ h q. let z : ◌≡◌ {A = ℕ} 0 1 = cc in absurd (omega arith)) e
+    let a = cond_some (leb (length p) 16) p r e in
+    let l = leb-true (length p) 16 a.0 in
+    (a.1, rw (← a.1) l)
 
 pub length_negation : {D : Type 0} (o : Ops D) (p : Form D) → length (negation o p) ≡ length p
 length_negation o [] = refl

@@ -1,5 +1,6 @@
 -- Words: packing and unpacking, order, products.
 use Rattle.std.proofs.Common.{◌≡◌, ℕ, zero, suc, ◌+◌, ◌*◌, ◌/◌, ◌%◌, ◌^◌, ◌<◌, ◌≤◌, true, false, eqb, ltb, leb, ◌⊎◌, List, [], ◌∷◌, length, sym, refl, ap, ◌∙◌, inl, inr, mul-le-mul_right, pow-suc, arith}
+use Rattle.std.proofs.Math.Nat.{one-le-pow}
 use native.Mathlib.Nat.{zero-div}
 use lib.Arith.{digits_lt, digits_div, digits_mod}
 use Rattle.std.proofs.lemmas.Bool.{and_parts, cond_both, eqb-true, eqb-false, eq-eqb, ne_eqb, leb-true, leb-false, lt-ltb, le-ltb, cases_order, cases_lt}
@@ -13,8 +14,7 @@ codes_up b c [] h k = tt
 codes_up b c (d ∷ m) h k = (k.0, omega arith, k.2)
 
 pub pow_pos : (k : ℕ) → 0 < 256 ^ k
-pow_pos zero = omega arith
-pow_pos (suc k) = let h = pow_pos k in rw pow-suc (omega arith)
+pow_pos k = one-le-pow k 256 (omega arith)
 
 pub pack_lt : (k b : ℕ) (m : List ℕ) → b < 256 → Codes b m → pack k m < 256 ^ k
 pack_lt zero b m l h = pow_pos 0
@@ -85,12 +85,6 @@ times_length (c ∷ m) n = let ih = times_length m n in insert_length c (times m
 module _ (k : ℕ) where
   pub word_none : Packed k 0
   word_none = record { codes = []; falls = tt; short = omega arith; packs = sym (pack_none k) }
-
-  pub word_one : (c : ℕ) → 0 < k → 0 < c → c ≤ 40 → Packed k (pack k (c ∷ []))
-  word_one c s z l = record { codes = c ∷ []; falls = (z, l, tt); short = s; packs = refl }
-
-  pub unpack_one : (c : ℕ) → 0 < k → 0 < c → c ≤ 40 → unpack k (pack k (c ∷ [])) ≡ c ∷ []
-  unpack_one c s z l = unpack_pack k 40 (c ∷ []) (omega arith) (z, l, tt) s
 
   -- unpacking tells words apart
   pub unpack_inj : (v w : ℕ) (X : Packed k v) (Y : Packed k w) → unpack k v ≡ unpack k w → v ≡ w

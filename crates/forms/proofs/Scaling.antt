@@ -1,5 +1,5 @@
 -- One step of a scaled list and of a product, and their lengths.
-use Rattle.std.proofs.Common.{◌≡◌, ℕ, suc, ◌+◌, ◌-◌, ◌≤◌, true, false, ltb, List, [], ◌∷◌, ◌++◌, length, take, drop, sym, ap, ◌∙◌, arith}
+use Rattle.std.proofs.Common.{◌≡◌, ℕ, suc, ◌+◌, ◌-◌, ◌≤◌, ltb, List, [], ◌∷◌, ◌++◌, length, take, drop, sym, ap, ◌∙◌, arith}
 use Rattle.std.proofs.lemmas.List.{append_assoc, drop_at, drop-drop, length-append, length-take-le}
 use Rattle.std.proofs.lemmas.Bool.{cond_both}
 use Rattle.forms.specs.Forms.{added, into, unless_zero}
@@ -10,16 +10,6 @@ use Rattle.forms.specs.declared.term.Term.{Term}
 use Rattle.forms.specs.Forms.{term_product, scaled}
 
 module _ {D : Type 0} (o : Ops D) where
-  pub scaled_stays : (x y : Term D) {ys ys' : List (Term D)} {t : Term D} {z : D} → ys ≡ y ∷ ys' → t ≡ term_product o x y → z ≡ o.zero → false ≡ o.same t.coefficient z → scaled o x ys ≡ t ∷ scaled o x ys'
-  scaled_stays x y p a b e =
-      let f : o.same (term_product o x y).coefficient o.zero ≡ false = rw (a, b) at (sym e) in
-      rw (p, a, f)
-
-  pub scaled_gone : (x y : Term D) {ys ys' : List (Term D)} {t : Term D} {z : D} → ys ≡ y ∷ ys' → t ≡ term_product o x y → z ≡ o.zero → true ≡ o.same t.coefficient z → scaled o x ys ≡ scaled o x ys'
-  scaled_gone x y p a b e =
-      let f : o.same (term_product o x y).coefficient o.zero ≡ true = rw (a, b) at (sym e) in
-      rw (p, f)
-
   length_unless : (t : Term D) (xs : List (Term D)) (n : ℕ) → length xs ≤ n → length (unless_zero o t xs) ≤ suc n
   length_unless t xs n h = cond_both (o.same t.coefficient o.zero) xs (t ∷ xs) (λ l. length l ≤ suc n) (λ _. omega arith) (λ _. omega arith)
 

@@ -6,9 +6,8 @@ use Rattle.domain.specs.Ring.{Ops}
 use Rattle.forms.specs.Rows.{part, Within, Kept}
 use Rattle.forms.specs.declared.span.Span.{Span}
 use Rattle.forms.specs.declared.term.Term.{Term}
-use Rattle.forms.proofs.Parts.{part_kept, kept_then, part_none}
+use Rattle.forms.proofs.Parts.{part_kept, kept_then, part_none, step_kept}
 use Rattle.forms.specs.Forms.{scaled, multiplied}
-use Rattle.forms.proofs.Making.{step_kept}
 use Rattle.forms.proofs.Scaling.{length_sum, length_scaled}
 
 module _ {X : Type 0} where

@@ -5,16 +5,13 @@ use Rattle.domain.specs.Ring.{Ops, Laws}
 use Rattle.forms.specs.declared.term.Term.{Term}
 use Rattle.forms.specs.Values.{Under, Normal, weighed}
 use Rattle.forms.specs.Monomials.{K, Packed}
-use Rattle.domain.proofs.Rings.{mul_zero, zero_add, one_mul}
+use Rattle.domain.proofs.Rings.{mul_zero, zero_add, one_mul, add_cancel}
 use Rattle.forms.proofs.Normality.{under_up}
 
 abbrev pub is : {V : Type 0} → Ops V → ℕ → ℕ → V
 is o w v = cond (eqb v w) o.one o.zero
 
 module _ {V : Type 0} {o : Ops V} (r : Laws o) where
-  pub cancel : (x y z : V) → o.add x y ≡ o.add x z → y ≡ z
-  cancel x y z e = cc (zero_add r y, zero_add r z, r.add_neg x, r.add_comm x (o.neg x), r.add_assoc (o.neg x) x y, r.add_assoc (o.neg x) x z)
-
   absent : (w : ℕ) (p : List (Term V)) → Normal o p → Under w p → weighed o (is o w) p ≡ o.zero
   absent w [] n u = refl
   absent w (t ∷ p) n u =
@@ -40,7 +37,7 @@ module _ {V : Type 0} {o : Ops V} (r : Laws o) where
       go tails (inl e) =
           let same : t.coefficient ≡ u.coefficient = cc (leads t p n, leads u q m, h t.monomial.0 n.1) in
           let term : t ≡ u = λ i. record { coefficient = same i; monomial = record { 0 = e i } } in
-          let rest : p ≡ q = tails (λ w W. cancel (o.mul t.coefficient (is o w t.monomial.0)) (weighed o (is o w) p) (weighed o (is o w) q) (cc (h w W))) in
+          let rest : p ≡ q = tails (λ w W. let x = o.mul t.coefficient (is o w t.monomial.0) in add_cancel r (weighed o (is o w) p) (weighed o (is o w) q) x (cc (h w W, r.add_comm x (weighed o (is o w) p), r.add_comm x (weighed o (is o w) q)))) in
           ap₂ ◌∷◌ term rest
       go tails (inr (inl l)) = absurd (nonzero u.coefficient m.0 (sym (leads u q m) ∙ sym (h u.monomial.0 m.1) ∙ absent u.monomial.0 (t ∷ p) n l))
       go tails (inr (inr l)) = absurd (nonzero t.coefficient n.0 (sym (leads t p n) ∙ h t.monomial.0 n.1 ∙ absent t.monomial.0 (u ∷ q) m l))

@@ -3,6 +3,7 @@ ghost use Rattle.std.specs.Prelude.{◌≡◌, length, Decides};
 ghost use Rattle.forms.specs.Rows.{part, Within};
 ghost use Rattle.forms.specs.Forms.{same_form, same_term, fixed};
 
+use crate::monomial::Monomial;
 use crate::span::Span;
 use crate::term::Term;
 use domain::Domain;
@@ -12,10 +13,7 @@ impl<D: Domain> Term<D> {
         ensures is { result ≡ same_term D.ops self other }
         ensures decides { Decides result (self ≡ other) }
     {
-        if self.monomial.0 != other.monomial.0 {
-            return false;
-        }
-        self.coefficient.same(other.coefficient)
+        self.monomial == other.monomial && self.coefficient.same(other.coefficient)
     }
 }
 
@@ -24,15 +22,7 @@ pub fn same<D: Domain>(p: &[Term<D>], q: &[Term<D>]) -> bool
     ensures is { result ≡ same_form D.ops p.now q.now }
     ensures decides { Decides result (p.now ≡ q.now) }
 {
-    if p.len() != q.len() {
-        return false;
-    }
-    for i in 0..p.len() {
-        if !p[i].same(q[i]) {
-            return false;
-        }
-    }
-    true
+    p.len() == q.len() && p.iter().zip(q).all(|(s, t)| s.same(*t))
 }
 
 // Whether two parts of a row are one form.
@@ -41,22 +31,16 @@ pub fn same_parts<D: Domain>(row: &[Term<D>], s: Span, t: Span) -> bool
     requires t { Within t (length row.now) }
     ensures { result ≡ same_form D.ops (part s row.now) (part t row.now) }
 {
-    let i = s.from;
-    let j = s.to;
-    let k = t.from;
-    let l = t.to;
-    same(&row[i..j], &row[k..l])
+    same(&row[s.from..s.to], &row[t.from..t.to])
 }
 
 // The constant that a form is, if it is one.
 pub fn fixed<D: Domain>(p: &[Term<D>]) -> Option<D>
     ensures { result ≡ fixed D.ops p.now }
 {
-    if p.len() == 0 {
-        return Some(D::zero());
+    match p {
+        [] => Some(D::zero()),
+        [t] if t.monomial == Monomial::none() => Some(t.coefficient),
+        _ => None,
     }
-    if p.len() == 1 && p[0].monomial.0 == 0 {
-        return Some(p[0].coefficient);
-    }
-    None
 }

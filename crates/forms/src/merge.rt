@@ -1,45 +1,18 @@
 // The sum of two forms that stand in a row, written behind them.
-ghost use Rattle.std.specs.Prelude.{◌≡◌, ℕ, ◌+◌, ◌-◌, ◌<◌, ◌≤◌, ◌++◌, length};
+ghost use Rattle.std.specs.Prelude.{◌≡◌, ◌+◌, ◌-◌, ◌<◌, ◌≤◌, [], ◌++◌, length};
 ghost use Rattle.std.specs.Option.{option_to_list};
 ghost use Rattle.forms.specs.Rows.{part, Within, Put};
-ghost use Rattle.forms.specs.Forms.{added};
+ghost use Rattle.forms.specs.Forms.{added, unless_zero, term};
 
 use crate::span::Span;
 use crate::term::Term;
 use domain::Domain;
+use std::cmp::Ordering;
 
-// Takes the next term of the sum off the fronts of the two parts; none where two coefficients add up to zero.
-fn next<D: Domain>(row: &[Term<D>], x: &mut Span, y: &mut Span) -> Option<Term<D>>
-    requires x { Within x.old (length row.now) }
-    requires y { Within y.old (length row.now) }
-    requires some { 0 < (x.old.to - x.old.from) + (y.old.to - y.old.from) }
-    ensures sum { added D.ops (part x.old row.now) (part y.old row.now) ≡ option_to_list result ++ added D.ops (part x.new row.now) (part y.new row.now) }
-    ensures x { Within x.new x.old.to }
-    ensures y { Within y.new y.old.to }
-    ensures less { (x.new.to - x.new.from) + (y.new.to - y.new.from) < (x.old.to - x.old.from) + (y.old.to - y.old.from) }
+// The sum of two terms of one monomial, if it is not zero.
+fn total<D: Domain>(s: Term<D>, t: Term<D>) -> Option<Term<D>>
+    ensures { option_to_list result ≡ unless_zero D.ops (term (D.ops.add s.coefficient t.coefficient) s.monomial) [] }
 {
-    if y.from >= y.to {
-        let t = row[x.from];
-        x.from += 1;
-        return Some(t);
-    }
-    if x.from >= x.to {
-        let t = row[y.from];
-        y.from += 1;
-        return Some(t);
-    }
-    let s = row[x.from];
-    let t = row[y.from];
-    if t.monomial.0 < s.monomial.0 {
-        x.from += 1;
-        return Some(s);
-    }
-    if s.monomial.0 < t.monomial.0 {
-        y.from += 1;
-        return Some(t);
-    }
-    x.from += 1;
-    y.from += 1;
     let coefficient = s.coefficient.add(t.coefficient);
     if coefficient.same(D::zero()) {
         return None;
@@ -50,6 +23,27 @@ fn next<D: Domain>(row: &[Term<D>], x: &mut Span, y: &mut Span) -> Option<Term<D
     })
 }
 
+// The first term of the sum, and what is left of the two forms; no term where two coefficients add up to zero.
+fn next<'a, D: Domain>(
+    p: &'a [Term<D>],
+    q: &'a [Term<D>],
+) -> (Option<Term<D>>, &'a [Term<D>], &'a [Term<D>])
+    ensures sum { added D.ops p.now q.now ≡ option_to_list result.0 ++ added D.ops result.1.now result.2.now }
+    ensures room { length (option_to_list result.0) + (length result.1.now + length result.2.now) ≤ length p.now + length q.now }
+    ensures less { 0 < length p.now + length q.now → length result.1.now + length result.2.now < length p.now + length q.now }
+{
+    match (p, q) {
+        ([s, ps @ ..], [t, qs @ ..]) => match s.monomial.cmp(&t.monomial) {
+            Ordering::Greater => (Some(*s), ps, q),
+            Ordering::Less => (Some(*t), p, qs),
+            Ordering::Equal => (total(*s, *t), ps, qs),
+        },
+        ([s, ps @ ..], []) => (Some(*s), ps, q),
+        ([], [t, qs @ ..]) => (Some(*t), p, qs),
+        ([], []) => (None, p, q),
+    }
+}
+
 // The sum of the parts `a` and `b`, written from `at` on.
 pub fn merge<D: Domain>(row: &mut [Term<D>], a: Span, b: Span, at: usize) -> Span
     requires a { Within a at }
@@ -57,14 +51,22 @@ pub fn merge<D: Domain>(row: &mut [Term<D>], a: Span, b: Span, at: usize) -> Spa
     requires room { at + ((a.to - a.from) + (b.to - b.from)) ≤ length row.old }
     ensures { Put at row.old (added D.ops (part a row.old) (part b row.old)) row.new result }
 {
-    let mut x = a;
-    let mut y = b;
-    let mut end = at;
-    while x.from < x.to || y.from < y.to {
-        if let Some(t) = next(row, &mut x, &mut y) {
-            row[end] = t;
-            end += 1;
+    let (below, target) = row.split_at_mut(at);
+    let source = &*below;
+    let mut p = &source[a.from..a.to];
+    let mut q = &source[b.from..b.to];
+    let mut n = 0;
+    while !p.is_empty() || !q.is_empty() {
+        let (t, ps, qs) = next(p, q);
+        p = ps;
+        q = qs;
+        if let Some(t) = t {
+            target[n] = t;
+            n += 1;
         }
     }
-    Span { from: at, to: end }
+    Span {
+        from: at,
+        to: at + n,
+    }
 }

@@ -1,5 +1,5 @@
 // The product of two forms that stand in a row.
-ghost use Rattle.std.specs.Prelude.{◌≡◌, ℕ, ◌+◌, ◌-◌, ◌*◌, ◌<◌, ◌≤◌, length};
+ghost use Rattle.std.specs.Prelude.{◌≡◌, ◌+◌, ◌-◌, ◌≤◌, length};
 ghost use Rattle.forms.specs.Rows.{part, Within, Put};
 ghost use Rattle.forms.specs.Forms.{term_product, scaled, multiplied};
 
@@ -27,17 +27,20 @@ pub fn scale<D: Domain>(row: &mut [Term<D>], x: Term<D>, b: Span, at: usize) -> 
     requires room { at + (b.to - b.from) ≤ length row.old }
     ensures { Put at row.old (scaled D.ops x (part b row.old)) row.new result }
 {
-    let mut y = b;
-    let mut end = at;
-    while y.from < y.to {
-        let t = x.times(row[y.from]);
-        y.from += 1;
+    let (below, target) = row.split_at_mut(at);
+    let source = &*below;
+    let mut n = 0;
+    for y in &source[b.from..b.to] {
+        let t = x.times(*y);
         if !t.coefficient.same(D::zero()) {
-            row[end] = t;
-            end += 1;
+            target[n] = t;
+            n += 1;
         }
     }
-    Span { from: at, to: end }
+    Span {
+        from: at,
+        to: at + n,
+    }
 }
 
 // The product of the parts `a` and `b`, from `at` on; what stands behind it is scratch.
@@ -48,10 +51,8 @@ pub fn multiply<D: Domain>(row: &mut [Term<D>], a: Span, b: Span, at: usize) -> 
     requires room { at + 544 ≤ length row.old }
     ensures { Put at row.old (multiplied D.ops (part a row.old) (part b row.old)) row.new result }
 {
-    let mut i = a.to;
     let mut acc = Span { from: at, to: at };
-    while i > a.from {
-        i -= 1;
+    for i in (a.from..a.to).rev() {
         let x = row[i];
         let s = scale(row, x, b, acc.to);
         let m = merge(row, s, acc, s.to);

@@ -1,5 +1,5 @@
 // Forms that are copied and negated within a row, and their degree.
-ghost use Rattle.std.specs.Prelude.{◌≡◌, ℕ, ◌+◌, ◌-◌, ◌*◌, ◌<◌, ◌≤◌, ◌⊎◌, length};
+ghost use Rattle.std.specs.Prelude.{◌≡◌, ◌+◌, ◌-◌, ◌≤◌, ◌⊎◌, length};
 ghost use Rattle.forms.specs.Monomials.{K};
 ghost use Rattle.forms.specs.Rows.{part, Within, Written, Put};
 ghost use Rattle.forms.specs.Forms.{negation, top};
@@ -16,15 +16,11 @@ pub fn copy<D: Copy>(row: &mut [Term<D>], s: Span, at: usize) -> Span
     ensures put { Put at row.old (part s row.old) row.new result }
     ensures written { Written at row.old (part s row.old) row.new }
 {
-    let mut y = s;
-    let mut end = at;
-    while y.from < y.to {
-        let t = row[y.from];
-        y.from += 1;
-        row[end] = t;
-        end += 1;
+    row.copy_within(s.from..s.to, at);
+    Span {
+        from: at,
+        to: at + (s.to - s.from),
     }
-    Span { from: at, to: end }
 }
 
 // The part `b` negated, written from `at` on.
@@ -33,18 +29,11 @@ pub fn negate<D: Domain>(row: &mut [Term<D>], b: Span, at: usize) -> Span
     requires room { at + (b.to - b.from) ≤ length row.old }
     ensures { Put at row.old (negation D.ops (part b row.old)) row.new result }
 {
-    let mut y = b;
-    let mut end = at;
-    while y.from < y.to {
-        let t = row[y.from];
-        y.from += 1;
-        row[end] = Term {
-            coefficient: t.coefficient.neg(),
-            monomial: t.monomial,
-        };
-        end += 1;
+    let s = copy(row, b, at);
+    for t in &mut row[s.from..s.to] {
+        t.coefficient = t.coefficient.neg();
     }
-    Span { from: at, to: end }
+    s
 }
 
 // The largest degree of a form's terms.
@@ -52,14 +41,5 @@ pub fn degree_of<D: Copy>(terms: &[Term<D>]) -> u32
     ensures top { result ≡ top terms.now }
     ensures few { result ≤ K }
 {
-    let mut i = terms.len();
-    let mut most: u32 = 0;
-    while i > 0 {
-        i -= 1;
-        let d = terms[i].monomial.degree();
-        if d > most {
-            most = d;
-        }
-    }
-    most
+    terms.iter().map(|t| t.monomial.degree()).max().unwrap_or(0)
 }

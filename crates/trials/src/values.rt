@@ -10,8 +10,8 @@ fn print_product(rt: &HostRuntime, a: u8, b: u8) -> io::Result<()> {
 }
 
 fn print_words(rt: &HostRuntime, a: u32, b: u32) -> io::Result<()> {
-    let x = Word::of(a);
-    let y = Word::of(b);
+    let x = Word::from(a);
+    let y = Word::from(b);
     let sum = x.add(y).bits;
     let product = x.mul(y).bits;
     let opposite = x.neg().bits;
@@ -23,8 +23,8 @@ fn print_words(rt: &HostRuntime, a: u32, b: u32) -> io::Result<()> {
 
 // Not one function with the words: a byte has two digits, and its products stand apart.
 fn print_bytes(rt: &HostRuntime, a: u8, b: u8) -> io::Result<()> {
-    let x = Byte::of(a);
-    let y = Byte::of(b);
+    let x = Byte::from(a);
+    let y = Byte::from(b);
     let sum = x.add(y).value;
     let opposite = x.neg().value;
     let below = x.below(y);

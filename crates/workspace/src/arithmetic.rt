@@ -167,7 +167,7 @@ impl<D: Domain> Slots<'_, D> {
         requires slots { to < slot_count }
         ensures forms { forms self.new ≡ slice_set (forms self.old) to (Forms.variable D.ops code) }
     {
-        let (coefficient, monomial) = (D::one(), Monomial::of(code));
+        let (coefficient, monomial) = (D::one(), Monomial::from(code));
         self.single(
             Term {
                 coefficient,

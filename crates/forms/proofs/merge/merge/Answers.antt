@@ -1,48 +1,23 @@
-use Rattle.std.proofs.Common.{◌∷◌, sym, ap, ◌∙◌, arith}
+use Rattle.std.proofs.Common.{◌≡◌, [], ◌++◌, take, sym, ap, ap₂, ◌∙◌, arith, length-set}
+use Rattle.std.proofs.lemmas.Grind.{common_steps}
 use Rattle.forms.specs.Forms.{added}
-use Rattle.forms.specs.Rows.{part}
-use Rattle.forms.proofs.Parts.{part_none}
-use Rattle.forms.proofs.Making.{start, skip, more, keeps, puts, sum_kept, within_less}
+use Rattle.forms.proofs.Parts.{part_below, put_behind, made_more}
 use Rattle.forms.proofs.merge.merge.Goals as goal
-use Rattle.forms.proofs.merge.merge.Goals.{then-x, else-x+then-y}
 
-pub loop-x-init : goal.loop-x-init
-loop-x-init g c = (start _ _ _ (omega arith), c.requires.a, c.requires.b, c.requires.room)
-
-pub next-requires : goal.next-requires
-next-requires g c =
-    let i = c.loop-x.invariant in
-    record {
-      x = record { ordered = i.1.ordered; below = omega (arith, i.1.below) };
-      y = record { ordered = i.2.ordered; below = omega (arith, i.2.below) };
-      some = elim c.if-x.branch [ then-x w ↦ omega arith | else-x+then-y w ↦ omega arith ];
-    }
-
-pub loop-x-preserved-in-Some : goal.loop-x-preserved-in-Some
-loop-x-preserved-in-Some g c =
-    let o = g.D.Domain.ops in
-    let i = c.loop-x.invariant in
-    let e = c.in-Some.ensures in
-    let k = keeps _ _ _ i.0 in
-    let wx = within_less _ _ _ e.x i.1 in
-    let wy = within_less _ _ _ e.y i.2 in
-    let eq = sym (sum_kept o _ _ _ _ _ k i.1 i.2) ∙ e.sum ∙ ap (λ r. c.in-Some.t ∷ r) (sum_kept o _ _ _ _ _ k wx wy) in
-    (more _ _ _ eq (omega (arith, e.less)) i.0, wx, wy, omega (arith, e.less))
-
-pub loop-x-preserved : goal.loop-x-preserved
-loop-x-preserved g c =
-    let o = g.D.Domain.ops in
-    let i = c.loop-x.invariant in
-    let e = c.in_default.ensures in
-    let k = keeps _ _ _ i.0 in
-    let wx = within_less _ _ _ e.x i.1 in
-    let wy = within_less _ _ _ e.y i.2 in
-    let eq = sym (sum_kept o _ _ _ _ _ k i.1 i.2) ∙ e.sum ∙ sum_kept o _ _ _ _ _ k wx wy in
-    (skip _ _ _ eq i.0, wx, wy, omega (arith, e.less))
+pub loop-p-preserved-in-Some : goal.loop-p-preserved-in-Some
+loop-p-preserved-in-Some g c =
+    let l = c.loop-p in
+    let s = rw c.in-Some.is at c.next.ensures.sum in
+    let r = rw c.in-Some.is at c.next.ensures.room in
+    (made_more l.n l.target _ _ _ c.in-Some.t l.invariant.0 s (omega arith), simp length-set (omega arith))
 
 pub returns : goal.returns
 returns g c =
     let o = g.D.Domain.ops in
+    let l = c.loop-p in
     let base = c.args.row.now in
-    let none = ap (λ p. added o p (part c.loop-x.y base)) (part_none c.loop-x.x base c.if-x.false) ∙ part_none c.loop-x.y base c.if-y.false in
-    puts _ _ _ none c.loop-x.invariant.0
+    let below = c.split_at_mut-below in
+    let e = below.ensures.front in
+    let none : added o l.p.now l.q.now ≡ [] = grind (arith, common_steps) in
+    let made = sym (ap (λ r. take l.n l.target ++ r) none) ∙ l.invariant.0 ∙ ap₂ (added o) (part_below c.args.a c.args.at base _ c.requires.a e) (part_below c.args.b c.args.at base _ c.requires.b e) in
+    put_behind c.args.at l.n base _ l.target _ (omega arith) e (grind (arith, common_steps)) (omega arith) made

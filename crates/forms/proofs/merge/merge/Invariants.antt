@@ -1,15 +1,11 @@
-use Rattle.std.proofs.Common.{◌+◌, ◌-◌, ◌≤◌, length}
+use Rattle.std.proofs.Common.{◌≡◌, ◌+◌, ◌≤◌, ◌++◌, length, take}
 use Rattle.forms.specs.Forms.{added}
-use Rattle.forms.specs.Rows.{part, Within}
-use Rattle.forms.proofs.Making.{Making}
 use Rattle.forms.proofs.merge.merge.Given as goal
 
-abbrev pub invariant-loop-x : goal.invariant-loop-x
-invariant-loop-x g l =
+abbrev pub invariant-loop-p : goal.invariant-loop-p
+invariant-loop-p g l =
     let o = g.D.Domain.ops in
-    Making l.at l.initial.row (added o (part l.initial.x l.initial.row) (part l.initial.y l.initial.row)) (added o (part l.x l.initial.row) (part l.y l.initial.row)) l.row l.end
-    × Within l.x l.at × Within l.y l.at
-    × (l.end + ((l.x.to - l.x.from) + (l.y.to - l.y.from)) ≤ length l.initial.row)
+    (take l.n l.target ++ added o l.p l.q ≡ added o l.initial.p l.initial.q) × (l.n + (length l.p + length l.q) ≤ length l.target)
 
-abbrev pub decreases-loop-x : goal.decreases-loop-x
-decreases-loop-x g l = (l.x.to - l.x.from) + (l.y.to - l.y.from)
+abbrev pub decreases-loop-p : goal.decreases-loop-p
+decreases-loop-p g l = length l.p + length l.q

@@ -1,14 +1,9 @@
 use Rattle.std.proofs.Common.{refl}
-use Rattle.domain.specs.Points.{DomainPoints}
 use Rattle.domain.specs.Fips.{byte_times, xtime}
 use Rattle.expression.specs.Run.{meaning}
 use Rattle.forms.specs.Monomials.{K, degree, times_word}
 use Rattle.forms.specs.Forms.{sum, difference, product, constant_form, variable}
 use Rattle.forms.proofs.points.points_hold.Goals as goal
-
-domain_points : DomainPoints
-unfolding byte_times xtime
-domain_points = record { product = refl; words_below = refl; bytes_not_below = refl }
 
 pub returns : goal.returns
 unfolding meaning sum difference product constant_form variable K degree times_word byte_times xtime
@@ -19,5 +14,5 @@ returns c = record {
   fourth_bytes = refl;
   fifth_words = refl;
   fifth_bytes = refl;
-  domains = domain_points;
+  domains = c.points_hold.ensures;
 }

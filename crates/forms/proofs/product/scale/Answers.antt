@@ -1,27 +1,35 @@
-use Rattle.std.proofs.Common.{◌+◌, ap, arith}
-use Rattle.forms.specs.Rows.{Within}
-use Rattle.forms.proofs.Parts.{part_none}
+use Rattle.std.proofs.Common.{◌≡◌, ◌+◌, ◌∷◌, drop, length-set, ◌++◌, take, sym, ap, ◌∙◌, arith}
+use Rattle.std.proofs.lemmas.List.{drop_all}
+use Rattle.std.proofs.lemmas.Grind.{common_steps}
+use Rattle.forms.specs.Rows.{part}
 use Rattle.forms.specs.Forms.{scaled}
-use Rattle.forms.proofs.Making.{start, skip, more, keeps, puts, step_kept}
-use Rattle.forms.proofs.Scaling.{scaled_stays, scaled_gone}
+use Rattle.forms.proofs.Parts.{part_below, put_behind, made_more}
 use Rattle.forms.proofs.product.scale.Goals as goal
-
-pub loop-y-init : goal.loop-y-init
-loop-y-init g c = (start _ _ _ (omega arith), c.requires.b, c.requires.room)
-
-pub loop-y-preserved-then-not-same : goal.loop-y-preserved-then-not-same
-loop-y-preserved-then-not-same g c =
-    let i = c.loop-y.invariant in
-    let w : Within (record { from = c.loop-y.y.from + 1; to = c.loop-y.y.to }) c.args.at = record { ordered = omega arith; below = i.1.below } in
-    let front = step_kept c.args.at c.args.row.now c.loop-y.row c.loop-y.y _ (keeps _ _ _ i.0) i.1 w c.loop-y-test.true (omega arith) c.index-row-y.is in
-    (more _ _ _ (scaled_stays g.D.Domain.ops c.args.x c.index-row-y.result front c.times-t.ensures c.zero.ensures c.if-not-same.ensures) (omega arith) i.0, w, omega arith)
+use Rattle.forms.proofs.product.scale.Goals.{then-not-same, else-not-same}
 
 pub loop-y-preserved : goal.loop-y-preserved
 loop-y-preserved g c =
-    let i = c.loop-y.invariant in
-    let w : Within (record { from = c.loop-y.y.from + 1; to = c.loop-y.y.to }) c.args.at = record { ordered = omega arith; below = i.1.below } in
-    let front = step_kept c.args.at c.args.row.now c.loop-y.row c.loop-y.y _ (keeps _ _ _ i.0) i.1 w c.loop-y-test.true (omega arith) c.index-row-y.is in
-    (skip _ _ _ (scaled_gone g.D.Domain.ops c.args.x c.index-row-y.result front c.times-t.ensures c.zero.ensures c.if-not-same.ensures) i.0, w, omega arith)
+    let o = g.D.Domain.ops in
+    let l = c.loop-y in
+    let x = c.args.x in
+    let t = c.times-t.result in
+    let ys = part c.args.b c.split_at_mut-below.result.0.now in
+    elim c.if-not-same.branch [
+      | then-not-same w ↦
+          let e : scaled o x (drop l.y-index ys) ≡ t ∷ scaled o x (drop (l.y-index + 1) ys) = grind (arith, common_steps) in
+          simp (w.target-is, w.n-is) (made_more l.n l.target _ _ _ t l.invariant.0 e (omega arith), omega arith, simp length-set (omega arith))
+      | else-not-same w ↦
+          let e : scaled o x (drop l.y-index ys) ≡ scaled o x (drop (l.y-index + 1) ys) = grind (arith, common_steps) in
+          simp (w.target-is, w.n-is) (ap (λ r. take l.n l.target ++ r) (sym e) ∙ l.invariant.0, omega arith, omega arith)
+    ]
 
 pub returns : goal.returns
-returns g c = puts _ _ _ (ap (scaled g.D.Domain.ops c.args.x) (part_none c.loop-y.y c.args.row.now c.loop-y-test.false)) c.loop-y.invariant.0
+returns g c =
+    let o = g.D.Domain.ops in
+    let l = c.loop-y in
+    let base = c.args.row.now in
+    let below = c.split_at_mut-below in
+    let e = below.ensures.front in
+    let n = drop_all l.y-index (part c.args.b below.result.0.now) (omega arith) in
+    let made = sym (ap (λ ys. take l.n l.target ++ scaled o c.args.x ys) n) ∙ l.invariant.0 ∙ ap (scaled o c.args.x) (part_below c.args.b c.args.at base _ c.requires.b e) in
+    put_behind c.args.at l.n base _ l.target _ (omega arith) e (grind (arith, common_steps)) (omega arith) made

@@ -1,15 +1,8 @@
-use Rattle.std.proofs.Common.{◌+◌, ◌-◌, ◌≤◌, length}
-use Rattle.forms.specs.Rows.{part, Within}
+use Rattle.std.proofs.Common.{◌≡◌, ◌≤◌, ◌++◌, length, take, drop}
 use Rattle.forms.specs.Forms.{scaled}
-use Rattle.forms.proofs.Making.{Making}
 use Rattle.forms.proofs.product.scale.Given as goal
 
 abbrev pub invariant-loop-y : goal.invariant-loop-y
 invariant-loop-y g l =
     let o = g.D.Domain.ops in
-    Making l.at l.initial.row (scaled o l.x (part l.initial.y l.initial.row)) (scaled o l.x (part l.y l.initial.row)) l.row l.end
-    × Within l.y l.at
-    × (l.end + (l.y.to - l.y.from) ≤ length l.initial.row)
-
-abbrev pub decreases-loop-y : goal.decreases-loop-y
-decreases-loop-y g l = l.y.to - l.y.from
+    (take l.n l.target ++ scaled o l.x (drop l.y-index l.y-items) ≡ scaled o l.x l.y-items) × (l.n ≤ l.y-index) × (length l.y-items ≤ length l.target)

@@ -1,38 +1,14 @@
-use Rattle.std.proofs.Common.{◌≡◌, ◌+◌, ◌-◌, max, ◌∷◌, length, get_or, drop, sym, ap, ◌∙◌, arith}
-use Rattle.std.proofs.lemmas.List.{drop_more, drop_all}
-use Rattle.forms.specs.Forms.{top}
+use Rattle.std.proofs.Common.{ap, ◌∙◌, rules, tests}
+use Rattle.std.specs.Option.{unwrap_or}
+use Rattle.std.proofs.lemmas.Iterator.{YieldsList-from_slice, YieldsList-from_map}
+use Rattle.std.proofs.lemmas.Iterator.Consumers.{reduce_from_yields_List}
+use Rattle.std.proofs.lemmas.List.Folds.{max_of_map}
 use Rattle.forms.specs.Monomials.{degree}
-use Rattle.forms.proofs.Digits.{top_few}
+use Rattle.forms.proofs.Digits.{top_fold}
 use Rattle.forms.proofs.rows.degree_of.Goals as goal
 
-pub loop-i-init : goal.loop-i-init
-loop-i-init g c = let xs = c.args.terms.now in (sym (ap top (drop_all (length xs) xs (omega arith))), omega arith)
-
-pub loop-i-preserved : goal.loop-i-preserved
-loop-i-preserved g c =
+pub returns-clause-top : goal.returns-clause-top
+returns-clause-top g c =
     let xs = c.args.terms.now in
-    let i = c.loop-i.i in
-    let x = c.index-terms-i.result in
-    let inv = c.loop-i.invariant in
-    let e : i - 1 + 1 ≡ i = omega arith in
-    let d : drop (i - 1) xs ≡ get_or xs (i - 1) x ∷ drop i xs = drop_more xs (i - 1) x (omega arith) ∙ ap (λ j. get_or xs (i - 1) x ∷ drop j xs) e in
-    let t : top (drop (i - 1) xs) ≡ max (degree (get_or xs (i - 1) x).monomial) (top (drop i xs)) = ap top d in
-    (omega arith, omega arith)
-
-pub loop-i-preserved-then-d-most : goal.loop-i-preserved-then-d-most
-loop-i-preserved-then-d-most g c =
-    let xs = c.args.terms.now in
-    let i = c.loop-i.i in
-    let x = c.index-terms-i.result in
-    let inv = c.loop-i.invariant in
-    let e : i - 1 + 1 ≡ i = omega arith in
-    let d : drop (i - 1) xs ≡ get_or xs (i - 1) x ∷ drop i xs = drop_more xs (i - 1) x (omega arith) ∙ ap (λ j. get_or xs (i - 1) x ∷ drop j xs) e in
-    let t : top (drop (i - 1) xs) ≡ max (degree (get_or xs (i - 1) x).monomial) (top (drop i xs)) = ap top d in
-    (omega arith, omega arith)
-
-pub returns : goal.returns
-returns g c =
-    let xs = c.args.terms.now in
-    let e : c.loop-i.i ≡ 0 = omega (arith, c.loop-i-test.false) in
-    let t : c.loop-i.most ≡ top xs = c.loop-i.invariant.0 ∙ ap (λ i. top (drop i xs)) e in
-    record { top = t; few = let f = top_few xs in omega arith }
+    let e = reduce_from_yields_List _ c.map.result c.max.result c.max.ensures.ran (YieldsList-from_map _ (λ t. degree t.monomial) (YieldsList-from_slice xs cc) c.map.ensures.closure (λ x r q k. search (rules, tests))) in
+    c.unwrap_or.ensures ∙ ap (λ r. unwrap_or r 0) e ∙ max_of_map (λ t. degree t.monomial) xs ∙ top_fold xs

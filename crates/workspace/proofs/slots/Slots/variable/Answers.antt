@@ -9,5 +9,5 @@ returns g c =
     let o = g.D.Domain.ops in
     let F = slots c.args.self.now.lens.of c.args.self.now.row.now in
     record {
-      forms = c.single.ensures.forms ∙ ap (set F c.args.to) ((λ i. unless_zero o (record { coefficient = c.one-coefficient.ensures i; monomial = c.of-monomial.ensures i }) []) ∙ sym (variable_is o c.args.code));
+      forms = c.single.ensures.forms ∙ ap (set F c.args.to) ((λ i. unless_zero o (record { coefficient = c.one-coefficient.ensures i; monomial = c.from-monomial.ensures i }) []) ∙ sym (variable_is o c.args.code));
     }

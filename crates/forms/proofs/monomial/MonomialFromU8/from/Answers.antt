@@ -1,6 +1,6 @@
 use Rattle.std.proofs.Common.{◌≡◌, ◌*◌, ◌%◌, arith}
 use Rattle.forms.specs.Monomials.{K}
-use Rattle.forms.proofs.monomial.Monomial.of.Goals as goal
+use Rattle.forms.proofs.monomial.MonomialFromU8.from.Goals as goal
 
 pub returns : goal.returns
 unfolding K
