@@ -1,6 +1,7 @@
 // Reads a file of a comparison from standard input and prints a line for each of its records: the counts or the refusal of a table.
 #![tactic(auto)]
 
+use machine::refusal::Refusal;
 use machine::table::read_table;
 use records::file::{File, FileFault, Part};
 use records::line::Line;

@@ -1,10 +1,11 @@
 // The tree of turns from a pair: the first path that no claim matches.
 ghost use Rattle.std.specs.Prelude.{◌≡◌, ◌+◌, ◌<◌, ◌≤◌, [], ◌∷◌, ◌++◌, IfSome};
-ghost use Rattle.machine.specs.Tables.{IsTable, There};
+ghost use Rattle.machine.specs.Tables.{There};
 ghost use Rattle.proposal.specs.Claims.{turns_of};
 ghost use Rattle.coverage.specs.Trees.{Tidy, Finds, Lacks};
 
 use crate::matching::{Along, any_match};
+use machine::accepted::Table;
 use proposal::claim::{Claim, Path};
 use walk::order::step_target;
 
@@ -30,18 +31,17 @@ fn extended(path: Path, turn: bool) -> Path
 #[derive(Clone, Copy)]
 struct Tree<'a> {
     claims: &'a [Claim],
-    words: &'a [u32],
+    table: Table<'a>,
     pair: u32,
-    ghost table: { IsTable words.now },
 }
 
 impl Tree<'_> {
     // From a path on, which leads to a state, the first that is unmatched: beginnings before continuations, and yes before no. `left` is how many turns more a filed path can have, and one.
     fn first_unmatched(&self, state: u32, path: Path, left: u32) -> Option<Path>
-        requires state { There self.now.words.now state }
+        requires state { There self.now.table.words.now state }
         requires tidy { Tidy path }
         requires short { path.length + left ≤ 17 }
-        ensures found { Finds self.now.claims.now self.now.words.now self.now.pair state path left result }
+        ensures found { Finds self.now.claims.now self.now.table.words.now self.now.pair state path left result }
         ensures tidy { IfSome result Tidy }
     {
         if left == 0 {
@@ -53,25 +53,24 @@ impl Tree<'_> {
         if !any_match(self.claims, self.pair, path, Along::Longer) {
             return Some(path);
         }
-        let yes = step_target(self.words, state, true)?;
+        let yes = step_target(self.table, state, true)?;
         if let Some(found) = self.first_unmatched(yes, extended(path, true), left - 1) {
             return Some(found);
         }
-        let no = step_target(self.words, state, false)?;
+        let no = step_target(self.table, state, false)?;
         self.first_unmatched(no, extended(path, false), left - 1)
     }
 }
 
 // The first unmatched path from a pair whose first machine is in a state.
-pub fn unmatched_from(claims: &[Claim], words: &[u32], pair: u32, state: u32) -> Option<Path>
-    requires table { IsTable words.now }
-    requires state { There words.now state }
-    ensures found { Lacks claims.now words.now pair state result }
+pub fn unmatched_from(claims: &[Claim], table: Table<'_>, pair: u32, state: u32) -> Option<Path>
+    requires { There table.words.now state }
+    ensures found { Lacks claims.now table.entry.words.now pair state result }
     ensures tidy { IfSome result Tidy }
 {
     let tree = Tree {
         claims,
-        words,
+        table,
         pair,
     };
     let root = Path {

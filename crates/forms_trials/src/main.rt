@@ -4,7 +4,7 @@
 use domain::Domain;
 use domain::byte::Byte;
 use domain::word::Word;
-use expression::shape::is_expression;
+use expression::shape::Expression;
 use forms::Term;
 use samples::zero_terms;
 use std::io;
@@ -235,7 +235,10 @@ fn print_compared<D: Domain>(
     left: &[u32],
     right: &[u32],
 ) -> io::Result<()> {
-    if row.len() < BELOW + ROOM || !is_expression(left) || !is_expression(right) {
+    let (Some(left), Some(right)) = (Expression::of(left), Expression::of(right)) else {
+        return println!(rt; "{what}: not an expression");
+    };
+    if row.len() < BELOW + ROOM {
         return println!(rt; "{what}: not compared");
     }
     let mut workspace = Workspace {

@@ -1,4 +1,5 @@
 // Tables that are accepted or refused, one line each.
+use machine::refusal::Refusal;
 use machine::table::read_table;
 use std::alloc::{AllocError, Global};
 use std::{io, iter};

@@ -5,16 +5,16 @@ ghost use Rattle.std.specs.Prelude.{◌+◌, ◌<◌, ◌≤◌};
 ghost use Rattle.workspace.specs.Layout.{slot_count};
 
 use domain::word::Word;
-use expression::test::Test;
 use forms::Term;
+use machine::accepted::Table;
 use samples::{COUNTER, test_name, zero_terms};
 use std::io;
 use walk::fault::WalkFault;
-use walk::known::{KnownTests, Noted};
+use walk::known::{KnownTests, none_known};
 use walk::order::{check_order, is_there};
 use walk::outputs::Outputs;
 use walk::path::{follow, follow_settled};
-use walk::side::Side;
+use walk::side::{Side, Walker};
 use workspace::layout::{
     FIRST_OUTPUTS, FIRST_REGISTERS, KNOWN, ROOM, SECOND_OUTPUTS, SECOND_REGISTERS,
 };
@@ -85,8 +85,7 @@ fn print_side(rt: &HostRuntime, slots: &Slots<'_, Word>, outputs: &Outputs) -> i
     for r in 0..3 {
         print_form(rt, slots, "register slot", FIRST_REGISTERS + r)?;
     }
-    for j in 0..outputs.count {
-        let port = outputs.ports[j];
+    for (j, port) in outputs.as_slice().iter().enumerate() {
         println!(rt; "  port {port}")?;
         print_form(rt, slots, "output slot", FIRST_OUTPUTS + j)?;
     }
@@ -94,8 +93,7 @@ fn print_side(rt: &HostRuntime, slots: &Slots<'_, Word>, outputs: &Outputs) -> i
 }
 
 fn print_known(rt: &HostRuntime, slots: &Slots<'_, Word>, known: &KnownTests) -> io::Result<()> {
-    for j in 0..known.count {
-        let noted = known.noted[j];
+    for (j, noted) in known.as_slice().iter().enumerate() {
         let says = noted.says;
         let name = test_name(noted.test);
         println!(rt; "  known: {name}, {says}")?;
@@ -112,18 +110,20 @@ fn print_second(
     known: &KnownTests,
     way: Way,
 ) -> io::Result<()> {
-    if !is_there(&SECOND, way.state) {
+    let Ok(table) = Table::read(&SECOND) else {
+        return println!(rt; "  second: no table");
+    };
+    if !is_there(table, way.state) {
         return println!(rt; "  second: not walked");
     }
     begin(slots, SECOND_REGISTERS, way.state);
-    let mut outputs = Outputs {
-        ports: [0; 16],
-        count: 0,
-    };
+    let mut outputs = Outputs::empty(0);
     match follow_settled(
         slots,
-        &SECOND,
-        SECOND_SIDE,
+        Walker {
+            table,
+            side: SECOND_SIDE,
+        },
         way.state,
         &[way.turn],
         known,
@@ -139,29 +139,25 @@ fn print_second(
 fn print_first(rt: &HostRuntime, row: &mut [Term<Word>], way: Way) -> io::Result<()> {
     let (start, turn) = (way.state, way.turn);
     println!(rt; "state {start}, turn {turn}")?;
-    if row.len() < ROOM || !is_there(&COUNTER, start) {
+    let Ok(table) = Table::read(&COUNTER) else {
+        return println!(rt; "  no table");
+    };
+    if row.len() < ROOM || !is_there(table, start) {
         return println!(rt; "  not walked");
     }
-    if check_order(&COUNTER, start, &[turn]).is_err() {
+    if check_order(table, start, &[turn]).is_err() {
         return println!(rt; "  impossible");
     }
     let mut slots = Slots::empty(row);
     begin(&mut slots, FIRST_REGISTERS, start);
-    let mut known = KnownTests {
-        noted: [Noted {
-            test: Test::Same,
-            says: false,
-        }; 24],
-        count: 0,
-    };
-    let mut outputs = Outputs {
-        ports: [0; 16],
-        count: 0,
-    };
+    let mut known = none_known();
+    let mut outputs = Outputs::empty(0);
     match follow(
         &mut slots,
-        &COUNTER,
-        FIRST_SIDE,
+        Walker {
+            table,
+            side: FIRST_SIDE,
+        },
         start,
         &[turn],
         &mut known,
