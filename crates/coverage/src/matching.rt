@@ -30,7 +30,7 @@ fn path_of(claim: Claim) -> Path
     }
 }
 
-// Whether the first `count` turns are the same: those of 32 or more are all that a word has.
+// Whether the first `count` turns are the same. With 32 or more these are all that a word has.
 fn same_turns(count: u32, one: u32, two: u32) -> bool
     ensures { result ≡ same_turns count one two }
 {

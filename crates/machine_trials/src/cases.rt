@@ -23,16 +23,9 @@ const EMIT: u32 = 0x80000000;
 
 const GO: u32 = 0x90000000;
 
-// So many words of one kind and number.
+// So many equal words.
 #[derive(Clone, Copy)]
-struct Run {
-    count: usize,
-    word: u32,
-}
-
-fn times(count: usize, word: u32) -> Run {
-    Run { count, word }
-}
+struct Run(usize, u32);
 
 // What the reader says of a table.
 pub fn judge(rt: &HostRuntime, name: &str, words: &[u32]) -> io::Result<()> {
@@ -48,9 +41,16 @@ pub fn judge(rt: &HostRuntime, name: &str, words: &[u32]) -> io::Result<()> {
     }
 }
 
+fn judge_all(rt: &HostRuntime, tables: &[(&str, &[u32])]) -> io::Result<()> {
+    for (name, words) in tables {
+        judge(rt, name, words)?;
+    }
+    Ok(())
+}
+
 fn spelt(heap: Global, runs: &[Run]) -> Result<Vec<u32>, AllocError> {
     runs.iter()
-        .flat_map(|r| iter::repeat_n(r.word, r.count))
+        .flat_map(|r| iter::repeat_n(r.1, r.0))
         .collect(heap)
 }
 
@@ -63,8 +63,8 @@ fn judge_runs(rt: &HostRuntime, name: &str, runs: &[Run]) -> io::Result<()> {
 pub fn heads(rt: &HostRuntime) -> io::Result<()> {
     judge(rt, "one state", &[ONE, GO])?;
     judge(rt, "no state", &[0x00000000, GO])?;
-    judge_runs(rt, "64 states", &[times(1, 0x00400000), times(64, GO)])?;
-    judge_runs(rt, "65 states", &[times(1, 0x00410000), times(65, GO)])?;
+    judge_runs(rt, "64 states", &[Run(1, 0x00400000), Run(64, GO)])?;
+    judge_runs(rt, "65 states", &[Run(1, 0x00410000), Run(65, GO)])?;
     judge(rt, "16 registers", &[0x00011000, GO])?;
     judge(rt, "17 registers", &[0x00011100, GO])?;
     judge(rt, "8 inputs", &[0x00010008, GO])?;
@@ -86,8 +86,8 @@ pub fn lengths(rt: &HostRuntime) -> io::Result<()> {
         "two words left over, the first of no kind",
         &[ONE, GO, 0xffffffff, GO],
     )?;
-    judge_runs(rt, "2,048 words, a bad head", &[times(2048, 0)])?;
-    judge_runs(rt, "2,049 words, a bad head", &[times(2049, 0)])?;
+    judge_runs(rt, "2,048 words, a bad head", &[Run(2048, 0)])?;
+    judge_runs(rt, "2,049 words, a bad head", &[Run(2049, 0)])?;
     long(rt, "2,048 words", 9)?;
     long(rt, "2,049 words", 10)
 }
@@ -95,17 +95,12 @@ pub fn lengths(rt: &HostRuntime) -> io::Result<()> {
 // Eleven rows: ten of eight actions with 24 words each, and one whose second action has `last` negations.
 fn long(rt: &HostRuntime, name: &str, last: usize) -> io::Result<()> {
     let heap = rt.alloc();
-    let action = spelt(heap, &[times(1, ZERO), times(23, NEG), times(1, EMIT)])?;
+    let action = spelt(heap, &[Run(1, ZERO), Run(23, NEG), Run(1, EMIT)])?;
     let mut row = action.repeat(heap, 8)?;
     row.push(GO)?;
     let end = spelt(
         heap,
-        &[
-            times(1, ZERO),
-            times(last, NEG),
-            times(1, EMIT),
-            times(1, GO),
-        ],
+        &[Run(1, ZERO), Run(last, NEG), Run(1, EMIT), Run(1, GO)],
     )?;
     let mut words = vec![in heap; 0x000b0000]?;
     words.extend_from_slice(&row.repeat(heap, 10)?)?;
@@ -114,93 +109,120 @@ fn long(rt: &HostRuntime, name: &str, last: usize) -> io::Result<()> {
     judge(rt, name, &words)
 }
 
+const WORDS: [(&str, &[u32]); 19] = [
+    ("the largest constant", &[TWO, 0x1fffffff, EMIT, GO, GO]),
+    ("register 1 of two", &[TWO, 0x20000001, EMIT, GO, GO]),
+    ("register 2 of two", &[TWO, 0x20000002, EMIT, GO, GO]),
+    ("input 0 of one", &[TWO, 0x30000000, EMIT, GO, GO]),
+    ("input 1 of one", &[TWO, 0x30000001, EMIT, GO, GO]),
+    ("a symbol", &[TWO, 0x40000000, EMIT, GO, GO]),
+    ("operation 3", &[TWO, ZERO, NEG, EMIT, GO, GO]),
+    ("operation 4", &[TWO, ZERO, 0x50000004, EMIT, GO, GO]),
+    ("test 1", &[TWO, ZERO, ZERO, 0x60000001, GO, GO, GO]),
+    ("test 2", &[TWO, ZERO, ZERO, 0x60000002, GO, GO, GO]),
+    ("store in 1 of two", &[TWO, ZERO, 0x70000001, GO, GO]),
+    ("store in 2 of two", &[TWO, ZERO, 0x70000002, GO, GO]),
+    ("port 15", &[TWO, ZERO, 0x8000000f, GO, GO]),
+    ("port 16", &[TWO, ZERO, 0x80000010, GO, GO]),
+    ("go to 1 of two", &[TWO, GO, 0x90000001]),
+    ("go to 2 of two", &[TWO, GO, 0x90000002]),
+    ("kind 0 behind the head", &[TWO, GO, 0x00000000]),
+    ("kind A", &[TWO, GO, 0xa0000000]),
+    ("kind F", &[TWO, GO, 0xf0000000]),
+];
+
 pub fn words(rt: &HostRuntime) -> io::Result<()> {
-    judge(rt, "the largest constant", &[TWO, 0x1fffffff, EMIT, GO, GO])?;
-    judge(rt, "register 1 of two", &[TWO, 0x20000001, EMIT, GO, GO])?;
-    judge(rt, "register 2 of two", &[TWO, 0x20000002, EMIT, GO, GO])?;
-    judge(rt, "input 0 of one", &[TWO, 0x30000000, EMIT, GO, GO])?;
-    judge(rt, "input 1 of one", &[TWO, 0x30000001, EMIT, GO, GO])?;
-    judge(rt, "a symbol", &[TWO, 0x40000000, EMIT, GO, GO])?;
-    judge(rt, "operation 3", &[TWO, ZERO, NEG, EMIT, GO, GO])?;
-    judge(rt, "operation 4", &[TWO, ZERO, 0x50000004, EMIT, GO, GO])?;
-    judge(rt, "test 1", &[TWO, ZERO, ZERO, 0x60000001, GO, GO, GO])?;
-    judge(rt, "test 2", &[TWO, ZERO, ZERO, 0x60000002, GO, GO, GO])?;
-    judge(rt, "store in 1 of two", &[TWO, ZERO, 0x70000001, GO, GO])?;
-    judge(rt, "store in 2 of two", &[TWO, ZERO, 0x70000002, GO, GO])?;
-    judge(rt, "port 15", &[TWO, ZERO, 0x8000000f, GO, GO])?;
-    judge(rt, "port 16", &[TWO, ZERO, 0x80000010, GO, GO])?;
-    judge(rt, "go to 1 of two", &[TWO, GO, 0x90000001])?;
-    judge(rt, "go to 2 of two", &[TWO, GO, 0x90000002])?;
-    judge(rt, "kind 0 behind the head", &[TWO, GO, 0x00000000])?;
-    judge(rt, "kind A", &[TWO, GO, 0xa0000000])?;
-    judge(rt, "kind F", &[TWO, GO, 0xf0000000])
+    judge_all(rt, &WORDS)
 }
 
-pub fn expressions(rt: &HostRuntime) -> io::Result<()> {
-    let (head, emit, go) = (times(1, ONE), times(1, EMIT), times(1, GO));
-    judge_runs(
-        rt,
+const EXPRESSIONS_AT_LIMITS: [(&str, &[Run]); 4] = [
+    (
         "24 words",
-        &[head, times(1, ZERO), times(23, NEG), emit, go],
-    )?;
-    judge_runs(
-        rt,
+        &[
+            Run(1, ONE),
+            Run(1, ZERO),
+            Run(23, NEG),
+            Run(1, EMIT),
+            Run(1, GO),
+        ],
+    ),
+    (
         "25 words",
-        &[head, times(1, ZERO), times(24, NEG), emit, go],
-    )?;
-    judge_runs(
-        rt,
+        &[
+            Run(1, ONE),
+            Run(1, ZERO),
+            Run(24, NEG),
+            Run(1, EMIT),
+            Run(1, GO),
+        ],
+    ),
+    (
         "eight values",
-        &[head, times(8, ZERO), times(7, SUM), emit, go],
-    )?;
-    judge_runs(
-        rt,
+        &[
+            Run(1, ONE),
+            Run(8, ZERO),
+            Run(7, SUM),
+            Run(1, EMIT),
+            Run(1, GO),
+        ],
+    ),
+    (
         "nine values",
-        &[head, times(9, ZERO), times(8, SUM), emit, go],
-    )?;
-    judge(rt, "no expression before an emit", &[ONE, EMIT, GO])?;
-    judge(rt, "a sum of one value", &[ONE, ZERO, SUM, EMIT, GO])?;
-    judge(rt, "a negation of none", &[ONE, NEG, EMIT, GO])?;
-    judge(
-        rt,
-        "two values before an emit",
-        &[ONE, ZERO, ZERO, EMIT, GO],
-    )?;
-    judge(
-        rt,
+        &[
+            Run(1, ONE),
+            Run(9, ZERO),
+            Run(8, SUM),
+            Run(1, EMIT),
+            Run(1, GO),
+        ],
+    ),
+];
+
+const EXPRESSIONS: [(&str, &[u32]); 7] = [
+    ("no expression before an emit", &[ONE, EMIT, GO]),
+    ("a sum of one value", &[ONE, ZERO, SUM, EMIT, GO]),
+    ("a negation of none", &[ONE, NEG, EMIT, GO]),
+    ("two values before an emit", &[ONE, ZERO, ZERO, EMIT, GO]),
+    (
         "two values before a store",
         &[TWO, ZERO, ZERO, STORE, GO, GO],
-    )?;
-    judge(
-        rt,
+    ),
+    (
         "a symbol behind a sum of none",
         &[ONE, SUM, 0x40000000, EMIT, GO],
-    )?;
-    judge(rt, "a value before a go-to", &[ONE, ZERO, GO])
+    ),
+    ("a value before a go-to", &[ONE, ZERO, GO]),
+];
+
+pub fn expressions(rt: &HostRuntime) -> io::Result<()> {
+    for (name, runs) in EXPRESSIONS_AT_LIMITS {
+        judge_runs(rt, name, runs)?;
+    }
+    judge_all(rt, &EXPRESSIONS)
 }
 
-pub fn actions(rt: &HostRuntime) -> io::Result<()> {
-    judge(rt, "stored twice", &[TWO, ZERO, STORE, ZERO, STORE, GO, GO])?;
-    judge(
-        rt,
+const ACTIONS: [(&str, &[u32]); 5] = [
+    ("stored twice", &[TWO, ZERO, STORE, ZERO, STORE, GO, GO]),
+    (
         "stored twice with an emit between",
         &[TWO, ZERO, STORE, ZERO, EMIT, ZERO, STORE, GO, GO],
-    )?;
-    judge(
-        rt,
+    ),
+    (
         "two registers stored",
         &[TWO, ZERO, STORE, ZERO, 0x70000001, GO, GO],
-    )?;
-    judge(
-        rt,
+    ),
+    (
         "stored on both sides of a test",
         &[TWO, ZERO, ZERO, SAME, ZERO, STORE, GO, ZERO, STORE, GO, GO],
-    )?;
-    judge(
-        rt,
+    ),
+    (
         "stored in both rows",
         &[TWO, ZERO, STORE, GO, ZERO, STORE, GO],
-    )?;
+    ),
+];
+
+pub fn actions(rt: &HostRuntime) -> io::Result<()> {
+    judge_all(rt, &ACTIONS)?;
     eight(rt, "eight actions", &[])?;
     eight(rt, "nine actions", &[ZERO, EMIT])?;
     eight(rt, "a ninth of two values", &[ZERO, ZERO, EMIT])
@@ -216,73 +238,99 @@ fn eight(rt: &HostRuntime, name: &str, more: &[u32]) -> io::Result<()> {
     judge(rt, name, &words)
 }
 
-pub fn tests(rt: &HostRuntime) -> io::Result<()> {
-    let (head, same, go) = (times(1, ONE), times(1, SAME), times(2, GO));
-    let zero = times(1, ZERO);
-    judge(rt, "a test row", &[ONE, ZERO, ZERO, SAME, GO, GO])?;
-    judge(rt, "a test of no expression", &[ONE, SAME, GO, GO])?;
-    judge(rt, "a test of one expression", &[ONE, ZERO, SAME, GO, GO])?;
-    judge(
-        rt,
+const TESTS: [(&str, &[u32]); 4] = [
+    ("a test row", &[ONE, ZERO, ZERO, SAME, GO, GO]),
+    ("a test of no expression", &[ONE, SAME, GO, GO]),
+    ("a test of one expression", &[ONE, ZERO, SAME, GO, GO]),
+    (
         "a test of three expressions",
         &[ONE, ZERO, ZERO, ZERO, SAME, GO, GO],
-    )?;
-    judge_runs(
-        rt,
+    ),
+];
+
+const TESTS_AT_LIMITS: [(&str, &[Run]); 5] = [
+    (
         "24 words on each side",
-        &[head, zero, times(23, NEG), zero, times(23, NEG), same, go],
-    )?;
-    judge_runs(
-        rt,
+        &[
+            Run(1, ONE),
+            Run(1, ZERO),
+            Run(23, NEG),
+            Run(1, ZERO),
+            Run(23, NEG),
+            Run(1, SAME),
+            Run(2, GO),
+        ],
+    ),
+    (
         "25 words on the left",
-        &[head, zero, times(24, NEG), zero, times(23, NEG), same, go],
-    )?;
-    judge_runs(
-        rt,
+        &[
+            Run(1, ONE),
+            Run(1, ZERO),
+            Run(24, NEG),
+            Run(1, ZERO),
+            Run(23, NEG),
+            Run(1, SAME),
+            Run(2, GO),
+        ],
+    ),
+    (
         "25 words on the right",
-        &[head, zero, times(23, NEG), zero, times(24, NEG), same, go],
-    )?;
-    judge_runs(
-        rt,
+        &[
+            Run(1, ONE),
+            Run(1, ZERO),
+            Run(23, NEG),
+            Run(1, ZERO),
+            Run(24, NEG),
+            Run(1, SAME),
+            Run(2, GO),
+        ],
+    ),
+    (
         "eight values on each side",
         &[
-            head,
-            times(8, ZERO),
-            times(7, SUM),
-            times(8, ZERO),
-            times(7, SUM),
-            same,
-            go,
+            Run(1, ONE),
+            Run(8, ZERO),
+            Run(7, SUM),
+            Run(8, ZERO),
+            Run(7, SUM),
+            Run(1, SAME),
+            Run(2, GO),
         ],
-    )?;
-    judge_runs(
-        rt,
+    ),
+    (
         "nine values on the right",
-        &[head, zero, times(9, ZERO), times(8, SUM), same, go],
-    )?;
-    judge(
-        rt,
+        &[
+            Run(1, ONE),
+            Run(1, ZERO),
+            Run(9, ZERO),
+            Run(8, SUM),
+            Run(1, SAME),
+            Run(2, GO),
+        ],
+    ),
+];
+
+const TEST_ROWS: [(&str, &[u32]); 5] = [
+    (
         "a test behind an action",
         &[ONE, ZERO, EMIT, ZERO, ZERO, SAME, GO, GO],
-    )?;
-    judge(
-        rt,
+    ),
+    (
         "a test behind a test",
         &[ONE, ZERO, ZERO, SAME, ZERO, ZERO, SAME, GO, GO],
-    )?;
-    judge(
-        rt,
-        "a second transition missing",
-        &[ONE, ZERO, ZERO, SAME, GO],
-    )?;
-    judge(
-        rt,
+    ),
+    ("a second transition missing", &[ONE, ZERO, ZERO, SAME, GO]),
+    (
         "go to 1 of one on the no side",
         &[ONE, ZERO, ZERO, SAME, GO, 0x90000001],
-    )?;
-    judge(
-        rt,
-        "a third transition",
-        &[ONE, ZERO, ZERO, SAME, GO, GO, GO],
-    )
+    ),
+    ("a third transition", &[ONE, ZERO, ZERO, SAME, GO, GO, GO]),
+];
+
+pub fn tests(rt: &HostRuntime) -> io::Result<()> {
+    judge_all(rt, &TESTS)?;
+    for (name, runs) in TESTS_AT_LIMITS {
+        judge_runs(rt, name, runs)?;
+    }
+    judge_all(rt, &TEST_ROWS)
 }
