@@ -27,11 +27,11 @@ pub enum Kind {
     Record,
 }
 
-impl Kind {
+impl From<u32> for Kind {
+    ghost from_gives = { λ w k. kind_number k ≡ kind w };
+
     // The kind in the top four bits of a word.
-    pub fn of(word: u32) -> Kind
-        ensures { kind_number result ≡ kind word }
-    {
+    fn from(word: u32) -> Kind {
         match word / NUMBERS {
             0 => Kind::Head,
             1 => Kind::Constant,
@@ -51,7 +51,9 @@ impl Kind {
             _ => Kind::Record,
         }
     }
+}
 
+impl Kind {
     // The word of this kind with a number.
     pub fn word(self, number: u32) -> u32
         requires { number < 0x10000000 }
@@ -64,6 +66,6 @@ impl Kind {
     pub fn is_of(self, word: u32) -> bool
         ensures { result ≡ (kind word == kind_number self) }
     {
-        Kind::of(word) == self
+        Kind::from(word) == self
     }
 }

@@ -20,7 +20,7 @@ impl From<u32> for Item {
     // What a word of an expression stands for.
     #[tactic(auto, unfolding(crate::specs::Words::item_of))]
     fn from(word: u32) -> Item {
-        Item::at(Kind::of(word), number_of(word))
+        Item::at(Kind::from(word), number_of(word))
     }
 }
 
@@ -55,11 +55,11 @@ impl Item {
     }
 }
 
-impl Test {
+impl From<u32> for Test {
+    ghost from_gives = { λ n t. t ≡ test_of n };
+
     // The test with this number: bit 0 tells which.
-    pub fn of(n: u32) -> Test
-        ensures { result ≡ test_of n }
-    {
+    fn from(n: u32) -> Test {
         if n % 2 == 0 { Test::Same } else { Test::Below }
     }
 }

@@ -11,7 +11,7 @@ use Rattle.proposal.specs.Reading.{read_pair, is_state}
 use Rattle.proposal.proofs.Accepted.{pair_read}
 use Rattle.rules.specs.declared.counts.Counts.{Counts}
 use Rattle.rules.specs.Kept.{pair_zero, kept_pair, is_kept}
-use Rattle.rules.proofs.PairParts.{fit_of, counted, was_good}
+use Rattle.rules.proofs.PairParts.{counted, was_good}
 use Rattle.judgement.specs.declared.tables.Tables.{Tables}
 use Rattle.judgement.specs.Walks.{Opened, StandsAt, head_at}
 
@@ -34,7 +34,7 @@ state_below states s e = ltb-true s states (and_parts (not (eqb s 0)) (ltb s sta
 
 -- what the types say of tables
 pub opened_of : (t : Tables) → Opened t.first.words.now t.second.words.now t.counts
-opened_of t = record { first_is = t.first.accepted ∙ ap good t.first_is; second_is = t.second.accepted ∙ ap good t.second_is; fit = fit_of t.counts }
+opened_of t = record { first_is = t.first.accepted ∙ ap good t.first_is; second_is = t.second.accepted ∙ ap good t.second_is; fit = t.fit }
 
 module _ (first second : List ℕ) (c : Counts) (opened : Opened first second c) where
   pub first_there : (ws : List ℕ) → is_kept c ws ≡ true → There first (kept_pair c ws).state₁

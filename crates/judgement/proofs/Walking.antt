@@ -87,7 +87,7 @@ module _ {D : Type 0} (o : Ops D) (one two : Machine) (p : Pair) (path₁ path�
             ∙ u.2
 
 -- What the walks leave in the slots of the other machine.
-module _ {D : Type 0} (c : Counts) (fit : Fit c) (known : KnownTests) (f₁ f₂ : List (Form D)) (kept : KeptApart (second_side c) f₁ f₂) where
+module _ {D : Type 0} (c : Counts) (fit : Fit c) (known : KnownTests) (f₁ f₂ : List (Form D)) (kept : KeptApart (second_side c fit) f₁ f₂) where
   first_kept : (i : ℕ) → i < 144 → (i < 16) ⊎ ((32 ≤ i) × ((i < 80) ⊎ (96 ≤ i))) → get_or f₂ i [] ≡ get_or f₁ i []
   first_kept i lt (inl low) = kept i lt (inl low) (inl (omega arith))
   first_kept i lt (inr (high, inl below)) = kept i lt (inr (omega (arith, fit.registers₂))) (inl below)
@@ -102,15 +102,15 @@ module _ {D : Type 0} (c : Counts) (fit : Fit c) (known : KnownTests) (f₁ f₂
   outputs_kept : (out : Outputs) → outputs_seen out.items f₁ 64 out.count ≡ outputs_seen out.items f₂ 64 out.count
   outputs_kept out = sym (outputs_frame out.items out.items f₁ f₂ 64 out.count (λ j h. refl) (λ j h. first_kept (64 + j) (omega (arith, out.few)) (inr (omega arith, inl (omega (arith, out.few))))))
 
-second_kept : {D : Type 0} (c : Counts) → Fit c → (f₁ f₂ : List (Form D)) → KeptOtherSide (first_side c) f₁ f₂ → kept_seen f₂ 16 c.two.registers ≡ kept_seen f₁ 16 c.two.registers
+second_kept : {D : Type 0} (c : Counts) (fit : Fit c) → (f₁ f₂ : List (Form D)) → KeptOtherSide (first_side c fit) f₁ f₂ → kept_seen f₂ 16 c.two.registers ≡ kept_seen f₁ 16 c.two.registers
 second_kept c fit f₁ f₂ kept = kept_frame f₁ f₂ 16 c.two.registers (λ j a b. kept j (omega (arith, fit.registers₂)) (inr (omega (arith, fit.registers₁))) (inl (omega (arith, fit.registers₂))))
 
 -- Where the walks start.
-module _ {D : Type 0} (o : Ops D) (c : Counts) (p : Pair) (state : ℕ) (out : Outputs) (none : out.count ≡ 0) (fs : List (Form D)) where
-  pub first_start : (known : KnownTests) → state ≡ p.state₁ → track_seen (first_side c) state known out fs ≡ at_start o p.state₁ (kept_seen fs 0 c.one.registers) (known_seen known.items fs 0 known.count)
+module _ {D : Type 0} (o : Ops D) (c : Counts) (fit : Fit c) (p : Pair) (state : ℕ) (out : Outputs) (none : out.count ≡ 0) (fs : List (Form D)) where
+  pub first_start : (known : KnownTests) → state ≡ p.state₁ → track_seen (first_side c fit) state known out fs ≡ at_start o p.state₁ (kept_seen fs 0 c.one.registers) (known_seen known.items fs 0 known.count)
   first_start known e = ap₂ (λ s outs. record { state = s; registers = kept_seen fs 0 c.one.registers; known = known_seen known.items fs 0 known.count; outputs = outs }) e (none_seen out.items fs 64 out.count none)
 
-  second_start : (registers : List (Form D)) → state ≡ p.state₂ → kept_seen fs 16 c.two.registers ≡ registers → beside [] (reached_seen (second_side c) state out fs) ≡ at_start o p.state₂ registers []
+  second_start : (registers : List (Form D)) → state ≡ p.state₂ → kept_seen fs 16 c.two.registers ≡ registers → beside [] (reached_seen (second_side c fit) state out fs) ≡ at_start o p.state₂ registers []
   second_start registers e kept =
       ap₂ (λ s outs. record { state = s; registers = kept_seen fs 16 c.two.registers; known = []; outputs = outs }) e (none_seen out.items fs 80 out.count none)
       ∙ ap (λ rs. record { state = p.state₂; registers = rs; known = []; outputs = [] }) kept
@@ -130,20 +130,20 @@ module _ {D : Type 0} (o : Ops D) (one two : Machine) (c : Counts) (fit : Fit c)
   begun : Started o
   begun = record { registers₁ = kept_seen f₁ 0 c.one.registers; registers₂ = kept_seen f₁ 16 c.two.registers; known = known_seen known.items f₁ 0 known.count }
 
-  module _ (starts : good (record { registers₁ = kept_seen f₁ 0 c.one.registers; registers₂ = kept_seen f₁ 16 c.two.registers; known = known_seen known.items f₁ 0 known.count }) ≡ started o p) (side₁ : Side) (e₁ : side₁ ≡ first_side c) (s₁ : ℕ) (es₁ : s₁ ≡ p.state₁) (out : Outputs) (none : out.count ≡ 0) where
+  module _ (starts : good (record { registers₁ = kept_seen f₁ 0 c.one.registers; registers₂ = kept_seen f₁ 16 c.two.registers; known = known_seen known.items f₁ 0 known.count }) ≡ started o p) (side₁ : Side) (e₁ : side₁ ≡ first_side c fit) (s₁ : ℕ) (es₁ : s₁ ≡ p.state₁) (out : Outputs) (none : out.count ≡ 0) where
     from_start : (a : Answer (Track D)) → a ≡ walk o (learn o) one 0 path₁ (track_seen side₁ s₁ known out f₁) → a ≡ walk o (learn o) one 0 path₁ (at_start o p.state₁ begun.registers₁ begun.known)
     unfolding begun
     from_start a e =
         e ∙ ap (λ side. walk o (learn o) one 0 path₁ (track_seen side s₁ known out f₁)) e₁
-        ∙ ap (walk o (learn o) one 0 path₁) (first_start o c p s₁ out none f₁ known es₁)
+        ∙ ap (walk o (learn o) one 0 path₁) (first_start o c fit p s₁ out none f₁ known es₁)
 
     pub first_walk_over : refused 11 0 0 ≡ walk o (learn o) one 0 path₁ (track_seen side₁ s₁ known out f₁) → refused 11 0 0 ≡ walked o one two p path₁ path₂
     unfolding begun
     first_walk_over e = first_over o one two p path₁ path₂ begun starts (from_start (refused 11 0 0) e)
 
-    module _ (r₁ : ℕ) (known' : KnownTests) (out' : Outputs) (f₂ : List (Form D)) (walks₁ : good (track_seen side₁ r₁ known' out' f₂) ≡ walk o (learn o) one 0 path₁ (track_seen side₁ s₁ known out f₁)) (kept₁ : KeptOtherSide side₁ f₁ f₂) (side₂ : Side) (e₂ : side₂ ≡ second_side c) (s₂ : ℕ) (es₂ : s₂ ≡ p.state₂) (other : Outputs) (none' : other.count ≡ 0) where
+    module _ (r₁ : ℕ) (known' : KnownTests) (out' : Outputs) (f₂ : List (Form D)) (walks₁ : good (track_seen side₁ r₁ known' out' f₂) ≡ walk o (learn o) one 0 path₁ (track_seen side₁ s₁ known out f₁)) (kept₁ : KeptOtherSide side₁ f₁ f₂) (side₂ : Side) (e₂ : side₂ ≡ second_side c fit) (s₂ : ℕ) (es₂ : s₂ ≡ p.state₂) (other : Outputs) (none' : other.count ≡ 0) where
       reached_first : Track D
-      reached_first = track_seen (first_side c) r₁ known' out' f₂
+      reached_first = track_seen (first_side c fit) r₁ known' out' f₂
 
       first_walked : good reached_first ≡ walk o (learn o) one 0 path₁ (at_start o p.state₁ begun.registers₁ begun.known)
       unfolding reached_first
@@ -154,7 +154,7 @@ module _ {D : Type 0} (o : Ops D) (one two : Machine) (c : Counts) (fit : Fit c)
       from_second a e =
           let P : Side → Type 0 = λ side. KeptOtherSide side f₁ f₂ in
           e ∙ ap (λ side. only_reached (walk o (must o (known_seen known'.items f₂ 0 known'.count)) two 0 path₂ (beside [] (reached_seen side s₂ other f₂)))) e₂
-          ∙ ap (λ t. only_reached (walk o (must o (known_seen known'.items f₂ 0 known'.count)) two 0 path₂ t)) (second_start o c p s₂ other none' f₂ (kept_seen f₁ 16 c.two.registers) es₂ (second_kept c fit f₁ f₂ (subst P e₁ kept₁)))
+          ∙ ap (λ t. only_reached (walk o (must o (known_seen known'.items f₂ 0 known'.count)) two 0 path₂ t)) (second_start o c fit p s₂ other none' f₂ (kept_seen f₁ 16 c.two.registers) es₂ (second_kept c fit f₁ f₂ (subst P e₁ kept₁)))
 
       pub second_walk_fault : (y : WalkFault) (after : ℕ → Reached D) → told_walk (Err y) after ≡ only_reached (walk o (must o (known_seen known'.items f₂ 0 known'.count)) two 0 path₂ (beside [] (reached_seen side₂ s₂ other f₂))) → refused (rule_figures (of_walk y)).number (rule_figures (of_walk y)).machine (rule_figures (of_walk y)).place ≡ walked o one two p path₁ path₂
       unfolding begun
@@ -166,4 +166,4 @@ module _ {D : Type 0} (o : Ops D) (one two : Machine) (c : Counts) (fit : Fit c)
           let P : Side → Type 0 = λ side. KeptApart side f₂ f₃ in
           let kept = subst P e₂ kept₂ in
           ap₂ (λ rs ks. a then λ _. good (record { state₁ = r₁; state₂ = r₂; registers₁ = rs; registers₂ = kept_seen f₃ 16 c.two.registers; known = ks })) (sym (registers_kept c fit known' f₂ f₃ kept)) (sym (tests_kept c fit known' f₂ f₃ kept))
-          ∙ by_outputs o one two p path₁ path₂ begun starts reached_first first_walked (reached_seen (second_side c) r₂ other' f₃) (ap (λ side. good (reached_seen side r₂ other' f₃)) (sym e₂) ∙ from_second _ walks₂) a (e ∙ ap (λ outs. same_outputs o 0 outs (outputs_seen other'.items f₃ 80 other'.count)) (sym (outputs_kept c fit known' f₂ f₃ kept out')))
+          ∙ by_outputs o one two p path₁ path₂ begun starts reached_first first_walked (reached_seen (second_side c fit) r₂ other' f₃) (ap (λ side. good (reached_seen side r₂ other' f₃)) (sym e₂) ∙ from_second _ walks₂) a (e ∙ ap (λ outs. same_outputs o 0 outs (outputs_seen other'.items f₃ 80 other'.count)) (sym (outputs_kept c fit known' f₂ f₃ kept out')))

@@ -39,27 +39,27 @@ pub record StandsAt (h : PairHead) (p : Pair) : Type 0 where
   pub second : h.second ≡ p.state₂
 
 -- Where the forms of either machine are kept.
-abbrev pub first_side : Counts → Side
-first_side c = record {
-  registers = record { first = 0; count = c.one.registers; below = omega (arith, c.registers_one) };
+abbrev pub first_side : (c : Counts) → Fit c → Side
+first_side c fit = record {
+  registers = record { first = 0; count = c.one.registers; below = omega (arith, fit.registers₁) };
   outputs = 64;
-  low = omega (arith, c.registers_one);
+  low = omega (arith, fit.registers₁);
   behind = omega arith;
   before = omega arith;
 }
 
-abbrev pub second_side : Counts → Side
-second_side c = record {
-  registers = record { first = 16; count = c.two.registers; below = omega (arith, c.registers_two) };
+abbrev pub second_side : (c : Counts) → Fit c → Side
+second_side c fit = record {
+  registers = record { first = 16; count = c.two.registers; below = omega (arith, fit.registers₂) };
   outputs = 80;
-  low = omega (arith, c.registers_two);
+  low = omega (arith, fit.registers₂);
   behind = omega arith;
   before = omega arith;
 }
 
-abbrev pub side_of : Counts → Which → Side
-side_of c First = first_side c
-side_of c Second = second_side c
+abbrev pub side_of : (c : Counts) → Fit c → Which → Side
+side_of c fit First = first_side c fit
+side_of c fit Second = second_side c fit
 
 -- Where both paths end: the states, the registers, and what is known.
 pub record Ends (D : Type 0) : Type 0 where

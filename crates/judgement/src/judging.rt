@@ -36,14 +36,14 @@ fn live_rules<D: Domain>(
     ensures { JudgesRules D.ops tables.entry.first.words.now tables.entry.second.words.now tables.entry.counts claim.entry.start.now claim.entry.end.now claim.entry.words.now first.now second.now result }
 {
     let ends = walk_both(slots, tables, claim.start, first, second)?;
+    let there = states_of(tables.counts, claim.end);
+    if ends.first != there.first || ends.second != there.second {
+        return Err(RuleFault::EndStates);
+    }
     let end = KeptPair {
         counts: tables.counts,
         words: claim.end,
     };
-    let there = states_of(&end);
-    if ends.first != there.first || ends.second != there.second {
-        return Err(RuleFault::EndStates);
-    }
     check_end(slots, &end, claim.words, &ends.known)?;
     Ok(())
 }

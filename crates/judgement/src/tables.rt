@@ -1,5 +1,6 @@
 // The two tables of a comparison.
 ghost use Rattle.std.specs.Prelude.{◌≡◌};
+ghost use Rattle.rules.specs.Kept.{Fit};
 
 use machine::accepted::Table;
 use rules::counts::Counts;
@@ -12,4 +13,5 @@ pub struct Tables<'a> {
     pub counts: Counts,
     ghost first_is: { first.head ≡ counts.one },
     ghost second_is: { second.head ≡ counts.two },
+    ghost fit: { Fit counts },
 }

@@ -14,7 +14,6 @@ use crate::states::states_of;
 use crate::tables::Tables;
 use domain::Domain;
 use machine::which::Which;
-use rules::counts::Counts;
 use rules::pairs::KeptPair;
 use rules::starting::start;
 use walk::known::KnownTests;
@@ -25,7 +24,7 @@ use workspace::layout::{FIRST_OUTPUTS, FIRST_REGISTERS, SECOND_OUTPUTS, SECOND_R
 use workspace::{Group, Slots};
 
 // Where both paths end, and what is known then.
-#[derive(Drop)]
+#[derive(Clone, Copy)]
 pub struct Walked {
     pub first: u32,
     pub second: u32,
@@ -33,9 +32,10 @@ pub struct Walked {
 }
 
 // Where the forms of a machine are kept.
-fn side_of(counts: Counts, which: Which) -> Side
-    ensures { result ≡ side_of counts which }
+fn side_of(tables: &Tables<'_>, which: Which) -> Side
+    ensures { result ≡ side_of tables.now.counts tables.now.fit which }
 {
+    let counts = tables.counts;
     match which {
         Which::First => Side {
             registers: Group {
@@ -66,13 +66,13 @@ pub fn walk_both<D: Domain>(
     requires short { length first.now ≤ 16 }
     ensures { told_walked D.ops result (forms slots.new) tables.entry.counts ≡ walked D.ops (table_machine tables.entry.first.words.now) (table_machine tables.entry.second.words.now) (kept_pair tables.entry.counts pair.now) first.now second.now }
 {
-    let one = side_of(tables.counts, Which::First);
-    let two = side_of(tables.counts, Which::Second);
+    let one = side_of(&tables, Which::First);
+    let two = side_of(&tables, Which::Second);
+    let from = states_of(tables.counts, pair);
     let pair = KeptPair {
         counts: tables.counts,
         words: pair,
     };
-    let from = states_of(&pair);
     let mut known = start(slots, &pair)?;
     let mut seen = Outputs::empty(0);
     let first = follow(
@@ -117,12 +117,12 @@ pub fn infeasible_rules<D: Domain>(
     requires short { length path.now ≤ 16 }
     ensures { told_rule result ≡ infeasible_rules D.ops (table_machine tables.entry.first.words.now) (kept_pair tables.entry.counts pair.now) path.now }
 {
-    let one = side_of(tables.counts, Which::First);
+    let one = side_of(&tables, Which::First);
+    let from = states_of(tables.counts, pair);
     let pair = KeptPair {
         counts: tables.counts,
         words: pair,
     };
-    let from = states_of(&pair);
     let mut known = start(slots, &pair)?;
     let mut outputs = Outputs::empty(0);
     check_infeasible(

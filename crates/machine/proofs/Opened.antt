@@ -11,7 +11,7 @@ module _ (words : List ℕ) (h : Head) (accepted : table words ≡ good h) where
   its_machine : machine words ≡ good (machine_of words h)
   its_machine = ap (λ a. a then λ g. good (machine_of words g)) accepted
 
-  machine_is : IsTable words
+  pub machine_is : IsTable words
   machine_is = its_machine ∙ ap (λ a. good (machine_or a)) (sym its_machine)
 
   pub has_state : (s : ℕ) → s < h.states → There words s

@@ -44,11 +44,11 @@ fn part_of<'a>(items: &'a [u32], end: u32) -> Part<'a>
     ensures { seen result ≡ part_of items.now end }
 {
     let n = number_of(end);
-    match Kind::of(end) {
+    match Kind::from(end) {
         Kind::Test => {
             let (left, right) = items.split_at(cut_of(items));
             Part::Test {
-                test: Test::of(n),
+                test: Test::from(n),
                 left,
                 right,
             }

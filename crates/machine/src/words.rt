@@ -59,7 +59,7 @@ impl Limits {
     pub fn allows(&self, word: u32) -> bool
         ensures { result ≡ legal self.now word }
     {
-        number_of(word) < self.bound_of(Kind::of(word))
+        number_of(word) < self.bound_of(Kind::from(word))
     }
 }
 
@@ -67,7 +67,7 @@ impl Limits {
 pub fn is_end(word: u32) -> bool
     ensures { result ≡ ends word }
 {
-    Kind::of(word) >= Kind::Test
+    Kind::from(word) >= Kind::Test
 }
 
 // The place of the first word, from `from` on, that ends what stands before it.

@@ -50,7 +50,7 @@ fn find_fact(words: &[u32], from: usize) -> FactAt
     FactAt {
         cut,
         end,
-        test: Test::of(number),
+        test: Test::from(number),
         says: number / 2 == 1,
     }
 }

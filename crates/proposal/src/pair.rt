@@ -28,11 +28,11 @@ const TESTS: u32 = 4;
 
 const STORES: u32 = 16;
 
-impl PairHead {
+impl From<u32> for PairHead {
+    ghost from_gives = { λ n h. h ≡ head_of (pair_head n) };
+
     // The fields of the number of a pair's first word.
-    pub fn of(number: u32) -> PairHead
-        ensures { result ≡ head_of (pair_head number) }
-    {
+    fn from(number: u32) -> PairHead {
         PairHead {
             first: number % 256,
             second: number / 256 % 256,
@@ -53,7 +53,7 @@ fn is_state(states: u32, state: u32) -> bool
 fn head_of(one: &Head, two: &Head, word: u32) -> Result<PairHead, PairFault>
     ensures { pair_told result ≡ head_told one.now.states two.now.states word }
 {
-    let head = PairHead::of(number_of(word));
+    let head = PairHead::from(number_of(word));
     if !Kind::Pair.is_of(word) || head.symbols > MOST_SYMBOLS || head.facts > MOST_FACTS {
         return Err(PairFault::Malformed(0));
     }

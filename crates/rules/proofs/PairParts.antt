@@ -29,10 +29,6 @@ pub record KeptParts (c : Counts) (ws : List ℕ) : Type 0 where
   pub symbols : symbol_count c ws ≡ (kept_pair c ws).symbols
   pub few_symbols : symbol_count c ws ≤ 32
 
--- what the type says of counts
-pub fit_of : (c : Counts) → Fit c
-fit_of c = record { registers₁ = c.registers_one; registers₂ = c.registers_two; shared₁ = c.shared_one; shared₂ = c.shared_two; symbols = omega (arith, c.registers_one, c.registers_two) }
-
 -- pair 0
 zero_parts : (c : Counts) → Fit c → KeptParts c []
 zero_parts c fit =

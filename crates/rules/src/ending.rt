@@ -12,7 +12,9 @@ ghost use Rattle.rules.specs.Told.{told_end, found_by, Substituted, JudgesEnd};
 
 use crate::facts::work_out_fact;
 use crate::fault::EndFault;
-use crate::pairs::{KeptPair, substitution_registers};
+use crate::pairs::{
+    KeptPair, fact_count, first_registers, second_registers, substitution_registers, symbol_count,
+};
 use crate::registers::{Registers, work_out_register, work_out_registers};
 use domain::Domain;
 use machine::which::Which;
@@ -83,7 +85,7 @@ pub fn check_end<D: Domain>(
 {
     let symbols = Group {
         first: SUBSTITUTION,
-        count: pair.symbols(),
+        count: symbol_count(pair.counts, pair.words),
     };
     let first = Group {
         first: FIRST_REGISTERS,
@@ -95,9 +97,16 @@ pub fn check_end<D: Domain>(
     };
     work_out_registers(slots, claim, substitution_registers(), symbols)?;
     let words = pair.words;
-    let from = pair.first_registers();
+    let from = first_registers(pair.words);
     let behind_first = check_registers(slots, symbols, words, from, first, Which::First)?;
-    let from = pair.second_registers(behind_first);
+    let from = second_registers(pair.counts, pair.words, behind_first);
     let behind_second = check_registers(slots, symbols, words, from, second, Which::Second)?;
-    check_facts(slots, symbols, words, pair.facts(), behind_second, known)
+    check_facts(
+        slots,
+        symbols,
+        words,
+        fact_count(pair.words),
+        behind_second,
+        known,
+    )
 }

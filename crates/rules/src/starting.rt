@@ -6,7 +6,7 @@ ghost use Rattle.rules.specs.Kept.{kept_pair};
 ghost use Rattle.rules.specs.Told.{told_started};
 
 use crate::facts::learn_facts;
-use crate::pairs::KeptPair;
+use crate::pairs::{KeptPair, fact_count, first_registers, second_registers};
 use crate::registers::work_out_registers;
 use domain::Domain;
 use walk::known::KnownTests;
@@ -29,8 +29,8 @@ pub fn start<D: Domain>(
         first: SECOND_REGISTERS,
         count: pair.counts.two.registers,
     };
-    let behind_first = work_out_registers(slots, pair.words, pair.first_registers(), first)?;
-    let from = pair.second_registers(behind_first);
+    let behind_first = work_out_registers(slots, pair.words, first_registers(pair.words), first)?;
+    let from = second_registers(pair.counts, pair.words, behind_first);
     let behind_second = work_out_registers(slots, pair.words, from, second)?;
-    learn_facts(slots, pair.words, pair.facts(), behind_second)
+    learn_facts(slots, pair.words, fact_count(pair.words), behind_second)
 }

@@ -1,13 +1,24 @@
 // Lists in fixed memory.
 ghost use Rattle.std.specs.Prelude.{◌≡◌, ◌+◌, ◌<◌, ◌≤◌, length, take, slice_set};
 
+use std::alloc::AllocError;
+
 // At most N items, one behind the other. (No heap: the places behind `count` hold blanks.)
+#[derive_where(Copy; T: Copy)]
 #[derive(Drop)]
 pub struct Bounded<T, const N: usize> {
     pub items: [T; N],
     pub count: usize,
     ghost size: { length items ≡ N },
     ghost few: { count ≤ N },
+}
+
+impl<T: Copy, const N: usize> Clone for Bounded<T, N> {
+    ghost is_clone = { λ a b. b ≡ a };
+
+    fn clone(&self) -> Result<Bounded<T, N>, AllocError> {
+        Ok(*self)
+    }
 }
 
 impl<T: Copy, const N: usize> Bounded<T, N> {

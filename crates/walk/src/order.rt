@@ -3,13 +3,14 @@ ghost use Rattle.std.specs.Prelude.{◌≡◌, ◌&&◌, IfSome, ◌==◌, nat_l
 ghost use Rattle.machine.specs.Machine.{row_at};
 ghost use Rattle.machine.specs.Reading.{row_of};
 ghost use Rattle.machine.specs.Views.{ahead};
-ghost use Rattle.machine.specs.Tables.{There, table_machine};
+ghost use Rattle.machine.specs.Tables.{IsTable, There, table_machine};
 ghost use Rattle.walk.specs.Taking.{allowed_target, InOrder, When};
 
 use crate::steps::row_there;
 use crate::testing::choose;
 use machine::accepted::Table;
 use machine::row::Row;
+use machine::table::read_table;
 use machine::view::Part;
 
 // The state that a turn leads to from a row, if the row has that turn.
@@ -37,8 +38,18 @@ pub fn step_target(table: Table<'_>, state: u32, turn: bool) -> Option<u32>
     target_of(row_there(table, state), turn)
 }
 
+// Whether words are a table with this state.
+pub fn is_there(words: &[u32], state: u32) -> bool
+    ensures { When result (IsTable words.now × There words.now state) }
+{
+    match read_table(words) {
+        Ok(head) => state < head.states,
+        Err(_) => false,
+    }
+}
+
 // Whether a table has this state.
-pub fn is_there(table: Table<'_>, state: u32) -> bool
+pub fn has_state(table: Table<'_>, state: u32) -> bool
     ensures { When result (There table.entry.words.now state) }
 {
     state < table.head.states

@@ -11,7 +11,7 @@ use samples::{COUNTER, test_name, zero_terms};
 use std::io;
 use walk::fault::WalkFault;
 use walk::known::{KnownTests, none_known};
-use walk::order::{check_order, is_there};
+use walk::order::{check_order, has_state};
 use walk::outputs::Outputs;
 use walk::path::{follow, follow_settled};
 use walk::side::{Side, Walker};
@@ -113,7 +113,7 @@ fn print_second(
     let Ok(table) = Table::read(&SECOND) else {
         return println!(rt; "  second: no table");
     };
-    if !is_there(table, way.state) {
+    if !has_state(table, way.state) {
         return println!(rt; "  second: not walked");
     }
     begin(slots, SECOND_REGISTERS, way.state);
@@ -142,7 +142,7 @@ fn print_first(rt: &HostRuntime, row: &mut [Term<Word>], way: Way) -> io::Result
     let Ok(table) = Table::read(&COUNTER) else {
         return println!(rt; "  no table");
     };
-    if row.len() < ROOM || !is_there(table, start) {
+    if row.len() < ROOM || !has_state(table, start) {
         return println!(rt; "  not walked");
     }
     if check_order(table, start, &[turn]).is_err() {

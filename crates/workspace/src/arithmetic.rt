@@ -1,5 +1,5 @@
 // What is done with forms in slots: each operation is one equation on the list of forms.
-ghost use Rattle.std.specs.Prelude.{◌≡◌, ◌+◌, ◌-◌, ◌*◌, ◌<◌, ◌≤◌, ◌⊎◌, [], length, replicate, slice_index_or, slice_set};
+ghost use Rattle.std.specs.Prelude.{◌≡◌, ◌+◌, ◌-◌, ◌*◌, ◌<◌, ◌≤◌, ◌⊎◌, [], Some, None, if◌then◌else◌, nat_lt, length, replicate, slice_index_or, slice_set};
 ghost use Rattle.forms.specs.Rows.{part, Within};
 ghost use Rattle.forms.specs.Forms as Forms;
 ghost use Rattle.workspace.specs.Layout.{slot_count, scratch_at, terms_needed};
@@ -26,10 +26,14 @@ const LIMIT: usize = 16;
 // The highest degree of a product.
 const HIGHEST: u32 = CODES;
 
-// Symbols from here on, and inputs from here on, have no code.
+// How many symbols and how many inputs have codes, and the code before the first.
 const SYMBOLS: u32 = 32;
 
+const BEFORE_SYMBOLS: u32 = 1;
+
 const INPUTS: u32 = 8;
+
+const BEFORE_INPUTS: u32 = 33;
 
 impl<'a, D> Slots<'a, D> {
     // The slots of a row, with no form in any.
@@ -177,16 +181,25 @@ impl<D: Domain> Slots<'_, D> {
         );
     }
 
+    // Slot `to` gets variable n of those whose codes begin behind `before`, if there are so many.
+    fn numbered(&mut self, n: u32, count: u32, before: u32, to: usize) -> Result<(), OverLimits>
+        requires slots { to < slot_count }
+        requires codes { before + count < 256 }
+        ensures forms { told result (forms self.new) ≡ give to (if nat_lt n count then Some (Forms.variable D.ops (before + n)) else None) (forms self.old) }
+    {
+        if n >= count {
+            return Err(OverLimits);
+        }
+        self.variable((before + n) as u8, to);
+        Ok(())
+    }
+
     // Slot `to` gets symbol n, if it has a code.
     pub fn symbol(&mut self, n: u32, to: usize) -> Result<(), OverLimits>
         requires slots { to < slot_count }
         ensures forms { told result (forms self.new) ≡ give to (Forms.symbol_form D.ops n) (forms self.old) }
     {
-        if n >= SYMBOLS {
-            return Err(OverLimits);
-        }
-        self.variable((1 + n) as u8, to);
-        Ok(())
+        self.numbered(n, SYMBOLS, BEFORE_SYMBOLS, to)
     }
 
     // Slot `to` gets input n, if it has a code.
@@ -194,11 +207,7 @@ impl<D: Domain> Slots<'_, D> {
         requires slots { to < slot_count }
         ensures forms { told result (forms self.new) ≡ give to (Forms.input_form D.ops n) (forms self.old) }
     {
-        if n >= INPUTS {
-            return Err(OverLimits);
-        }
-        self.variable((33 + n) as u8, to);
-        Ok(())
+        self.numbered(n, INPUTS, BEFORE_INPUTS, to)
     }
 
     // Slot `to` gets the form in place n of a group, if there are so many.

@@ -9,6 +9,6 @@ use Rattle.judgement.proofs.states.states_of.Goals as goal
 
 pub returns : goal.returns
 returns c =
-    let is : c.of.result ≡ head_at c.args.pair.now.words.now = c.of.ensures ∙ ap (λ n. head_of (pair_head n)) c.number_at.ensures in
-    let P : PairHead → Type 0 = λ h. StandsAt h (kept_pair c.args.pair.now.counts c.args.pair.now.words.now) in
-    subst P (sym is) (stands c.args.pair.now.counts c.args.pair.now.words.now c.args.pair.now.kept)
+    let is : c.from.result ≡ head_at c.args.pair.now = c.from.ensures ∙ ap (λ n. head_of (pair_head n)) c.number_at.ensures in
+    let P : PairHead → Type 0 = λ h. StandsAt h (kept_pair c.args.counts c.args.pair.now) in
+    subst P (sym is) (stands c.args.counts c.args.pair.now c.requires)

@@ -36,4 +36,4 @@ returns g c =
     let s : Started o = record { registers₁ = kept_seen fs 0 counts.one.registers; registers₂ = kept_seen fs 16 counts.two.registers; known = known_seen known.items fs 0 known.count } in
     c.check_infeasible.ensures
     ∙ ap (λ side. never_taken o m c.args.path.now (track_seen side c.states_of-from.result.first known out fs)) c.side_of-one.ensures
-    ∙ infeasible_by o m p c.args.path.now s c.in_ok-known.ensures.starts _ (first_start o counts p c.states_of-from.result.first out c.empty-outputs.ensures fs known c.states_of-from.ensures.first)
+    ∙ infeasible_by o m p c.args.path.now s c.in_ok-known.ensures.starts _ (first_start o counts c.args.tables.fit p c.states_of-from.result.first out c.empty-outputs.ensures fs known c.states_of-from.ensures.first)

@@ -27,7 +27,7 @@ pub returns-in_err-first : goal.returns-in_err-first
 returns-in_err-first g c =
     let t = c.args.tables in
     let p = err_from_is_err_and c.from_residual-in_err-first.result c.from_residual-in_err-first.ensures.1 in
-    rw (p.1, p.2) (first_walk_over g.D.Domain.ops (table_machine t.first.words.now) (table_machine t.second.words.now) t.counts (opened_of c.args.tables).fit (kept_pair t.counts c.args.pair.now) c.args.first.now c.args.second.now c.in_ok-known.known (forms c.start.new.slots) c.in_ok-known.ensures.starts
+    rw (p.1, p.2) (first_walk_over g.D.Domain.ops (table_machine t.first.words.now) (table_machine t.second.words.now) t.counts c.args.tables.fit (kept_pair t.counts c.args.pair.now) c.args.first.now c.args.second.now c.in_ok-known.known (forms c.start.new.slots) c.in_ok-known.ensures.starts
     c.side_of-one.result c.side_of-one.ensures c.states_of-from.result.first c.states_of-from.ensures.first c.empty-seen.result c.empty-seen.ensures c.in_err-first.ensures.walks)
 
 pub follow_settled-requires : goal.follow_settled-requires
@@ -40,7 +40,7 @@ pub returns-in_err-second : goal.returns-in_err-second
 returns-in_err-second g c =
     let t = c.args.tables in
     let p = err_from_is_err_and c.from_residual-in_err-second.result c.from_residual-in_err-second.ensures.1 in
-    rw (p.1, p.2) (second_walk_fault g.D.Domain.ops (table_machine t.first.words.now) (table_machine t.second.words.now) t.counts (opened_of c.args.tables).fit (kept_pair t.counts c.args.pair.now) c.args.first.now c.args.second.now c.in_ok-known.known (forms c.start.new.slots) c.in_ok-known.ensures.starts
+    rw (p.1, p.2) (second_walk_fault g.D.Domain.ops (table_machine t.first.words.now) (table_machine t.second.words.now) t.counts c.args.tables.fit (kept_pair t.counts c.args.pair.now) c.args.first.now c.args.second.now c.in_ok-known.known (forms c.start.new.slots) c.in_ok-known.ensures.starts
     c.side_of-one.result c.side_of-one.ensures c.states_of-from.result.first c.states_of-from.ensures.first c.empty-seen.result c.empty-seen.ensures
     c.in_ok-first.first c.follow.new.known c.follow.new.outputs (forms c.follow.new.slots) c.in_ok-first.ensures.walks c.in_ok-first.ensures.kept
     c.side_of-two.result c.side_of-two.ensures c.states_of-from.result.second c.states_of-from.ensures.second c.empty-other.result c.empty-other.ensures _ _ (c.in_err-second.ensures.walks []))
@@ -49,7 +49,7 @@ pub returns-in_err-compare_outputs : goal.returns-in_err-compare_outputs
 returns-in_err-compare_outputs g c =
     let t = c.args.tables in
     let p = err_from_is_err_and c.from_residual-in_err-compare_outputs.result c.from_residual-in_err-compare_outputs.ensures.1 in
-    rw (p.1, p.2) (both_walked g.D.Domain.ops (table_machine t.first.words.now) (table_machine t.second.words.now) t.counts (opened_of c.args.tables).fit (kept_pair t.counts c.args.pair.now) c.args.first.now c.args.second.now c.in_ok-known.known (forms c.start.new.slots) c.in_ok-known.ensures.starts
+    rw (p.1, p.2) (both_walked g.D.Domain.ops (table_machine t.first.words.now) (table_machine t.second.words.now) t.counts c.args.tables.fit (kept_pair t.counts c.args.pair.now) c.args.first.now c.args.second.now c.in_ok-known.known (forms c.start.new.slots) c.in_ok-known.ensures.starts
     c.side_of-one.result c.side_of-one.ensures c.states_of-from.result.first c.states_of-from.ensures.first c.empty-seen.result c.empty-seen.ensures
     c.in_ok-first.first c.follow.new.known c.follow.new.outputs (forms c.follow.new.slots) c.in_ok-first.ensures.walks c.in_ok-first.ensures.kept
     c.side_of-two.result c.side_of-two.ensures c.states_of-from.result.second c.states_of-from.ensures.second c.empty-other.result c.empty-other.ensures
@@ -58,7 +58,7 @@ returns-in_err-compare_outputs g c =
 pub returns : goal.returns
 returns g c =
     let t = c.args.tables in
-    both_walked g.D.Domain.ops (table_machine t.first.words.now) (table_machine t.second.words.now) t.counts (opened_of c.args.tables).fit (kept_pair t.counts c.args.pair.now) c.args.first.now c.args.second.now c.in_ok-known.known (forms c.start.new.slots) c.in_ok-known.ensures.starts
+    both_walked g.D.Domain.ops (table_machine t.first.words.now) (table_machine t.second.words.now) t.counts c.args.tables.fit (kept_pair t.counts c.args.pair.now) c.args.first.now c.args.second.now c.in_ok-known.known (forms c.start.new.slots) c.in_ok-known.ensures.starts
     c.side_of-one.result c.side_of-one.ensures c.states_of-from.result.first c.states_of-from.ensures.first c.empty-seen.result c.empty-seen.ensures
     c.in_ok-first.first c.follow.new.known c.follow.new.outputs (forms c.follow.new.slots) c.in_ok-first.ensures.walks c.in_ok-first.ensures.kept
     c.side_of-two.result c.side_of-two.ensures c.states_of-from.result.second c.states_of-from.ensures.second c.empty-other.result c.empty-other.ensures
