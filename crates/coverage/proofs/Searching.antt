@@ -1,8 +1,9 @@
 -- One turn of the search for an unmatched path.
-use Rattle.std.proofs.Common.{◌≡◌, ℕ, suc, ◌-◌, ◌<◌, Bool, true, false, List, [], ◌∷◌, ◌++◌, Some, None, Option, sym, refl, ap, ◌∙◌, ap₂, arith}
+use Rattle.std.proofs.Common.{◌≡◌, ℕ, suc, ◌-◌, ◌<◌, Bool, true, false, List, [], ◌∷◌, ◌++◌, Some, None, Option, sym, refl, ap, ◌∙◌, ap₂, subst, arith}
 use Rattle.machine.specs.Machine.{Machine, Row, straight, branch, row_at, chosen}
 use Rattle.walk.specs.Settled.{any}
 use Rattle.machine.specs.Tables.{table_machine}
+use Rattle.machine.specs.declared.accepted.Table.{Table}
 use Rattle.walk.specs.Taking.{allowed_target}
 use Rattle.proposal.specs.declared.claim.Path.{Path}
 use Rattle.proposal.specs.declared.claim.Claim.{Claim}
@@ -21,6 +22,12 @@ has_turn : (row : Row) (turn : Bool) (s : ℕ) → Some s ≡ allowed_target row
 has_turn (straight t) true s e = cc
 has_turn (straight t) false s e = cc
 has_turn (branch test left right y n) turn s e = cc
+
+-- What is found from a target is found in the table that it is a state of.
+pub in_table : (claims : List Claim) (p s : ℕ) (path : Path) (n : ℕ) (r : Option Path) (t u : Table) → t ≡ u → Finds claims t.words.now p s path n r → Finds claims u.words.now p s path n r
+in_table claims p s path n r t u e f =
+    let P : Table → Type 0 = λ table. Finds claims table.words.now p s path n r in
+    subst P e f
 
 module _ (claims : List Claim) (words : List ℕ) (p s : ℕ) (path : Path) (n : ℕ) where
   abbrev row : Row

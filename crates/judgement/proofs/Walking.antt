@@ -68,7 +68,7 @@ module _ {D : Type 0} (o : Ops D) (one two : Machine) (p : Pair) (path₁ path�
       second_refused n m q (good u) e h = absurd (let z : ◌≡◌ {A = ℕ} 0 1 = cc in omega arith)
       second_refused n m q (refused n' m' q') e h = (let same : refused n m q ≡ refused n' m' q' = cc in same) ∙ by_second (refused n' m' q') e
 
-      second_fault : (y : WalkFault) (after : ℕ → Reached D) → told_walk (Err y) after ≡ only_reached (walk o (must o t.known) two 0 path₂ (at_start o p.state₂ s.registers₂ [])) → refused (rule_figures (of_walk y)).number (rule_figures (of_walk y)).machine (rule_figures (of_walk y)).place ≡ walked o one two p path₁ path₂
+      second_fault : {A : Type 0} (y : WalkFault) (after : A → Reached D) → told_walk (Err y) after ≡ only_reached (walk o (must o t.known) two 0 path₂ (at_start o p.state₂ s.registers₂ [])) → refused (rule_figures (of_walk y)).number (rule_figures (of_walk y)).machine (rule_figures (of_walk y)).place ≡ walked o one two p path₁ path₂
       unfolding second_walk
       second_fault OverLimits after e = second_refused 11 0 0 _ refl e
       second_fault (Unsettled i) after e = second_refused 14 2 i _ refl e
@@ -156,7 +156,7 @@ module _ {D : Type 0} (o : Ops D) (one two : Machine) (c : Counts) (fit : Fit c)
           e ∙ ap (λ side. only_reached (walk o (must o (known_seen known'.items f₂ 0 known'.count)) two 0 path₂ (beside [] (reached_seen side s₂ other f₂)))) e₂
           ∙ ap (λ t. only_reached (walk o (must o (known_seen known'.items f₂ 0 known'.count)) two 0 path₂ t)) (second_start o c fit p s₂ other none' f₂ (kept_seen f₁ 16 c.two.registers) es₂ (second_kept c fit f₁ f₂ (subst P e₁ kept₁)))
 
-      pub second_walk_fault : (y : WalkFault) (after : ℕ → Reached D) → told_walk (Err y) after ≡ only_reached (walk o (must o (known_seen known'.items f₂ 0 known'.count)) two 0 path₂ (beside [] (reached_seen side₂ s₂ other f₂))) → refused (rule_figures (of_walk y)).number (rule_figures (of_walk y)).machine (rule_figures (of_walk y)).place ≡ walked o one two p path₁ path₂
+      pub second_walk_fault : {A : Type 0} (y : WalkFault) (after : A → Reached D) → told_walk (Err y) after ≡ only_reached (walk o (must o (known_seen known'.items f₂ 0 known'.count)) two 0 path₂ (beside [] (reached_seen side₂ s₂ other f₂))) → refused (rule_figures (of_walk y)).number (rule_figures (of_walk y)).machine (rule_figures (of_walk y)).place ≡ walked o one two p path₁ path₂
       unfolding begun
       second_walk_fault y after e = second_fault o one two p path₁ path₂ begun starts reached_first first_walked y after (from_second _ e)
 

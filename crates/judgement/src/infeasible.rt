@@ -2,18 +2,19 @@
 ghost use Rattle.std.specs.Prelude.{◌≡◌, ◌+◌, ◌≤◌, length};
 ghost use Rattle.machine.specs.Machine.{row_at};
 ghost use Rattle.workspace.specs.Views.{forms};
-ghost use Rattle.machine.specs.Tables.{There, table_machine};
+ghost use Rattle.machine.specs.Tables.{table_machine};
 ghost use Rattle.walk.specs.Taking.{track_seen};
 ghost use Rattle.correspondence.specs.Judgement.{other_settled, never_taken};
 ghost use Rattle.judgement.specs.Faults.{told_rule};
 
 use crate::fault::RuleFault;
 use domain::Domain;
+use machine::accepted::State;
 use walk::known::{KnownTests, Noted};
 use walk::outputs::Outputs;
 use walk::path::follow;
 use walk::settling::is_settled;
-use walk::side::Walker;
+use walk::side::Side;
 use walk::steps::row_there;
 use walk::testing::put_test;
 use workspace::Slots;
@@ -21,17 +22,16 @@ use workspace::Slots;
 // Whether the step from a state is at a test whose other answer is settled; its actions are not worked out.
 fn check_other<D: Domain>(
     slots: &mut Slots<'_, D>,
-    walker: Walker<'_>,
-    state: u32,
+    side: Side,
+    state: State<'_>,
     turn: bool,
     known: &KnownTests,
     outputs: &Outputs,
 ) -> Result<(), RuleFault>
-    requires state { There walker.table.words.now state }
-    ensures { told_rule result ≡ other_settled D.ops (row_at (table_machine walker.entry.table.words.now) state) turn (track_seen walker.entry.side state known.now outputs.now (forms slots.old)) }
+    ensures { told_rule result ≡ other_settled D.ops (row_at (table_machine state.entry.table.words.now) state.entry.number) turn (track_seen side state.entry.number known.now outputs.now (forms slots.old)) }
 {
-    let mut row = row_there(walker.table, state);
-    let Some(test) = put_test(slots, &mut row, walker.side.registers, !turn)? else {
+    let mut row = row_there(state);
+    let Some(test) = put_test(slots, &mut row, side.registers, !turn)? else {
         return Err(RuleFault::NotInfeasible);
     };
     if !is_settled(slots, known, Noted { test, says: !turn }) {
@@ -43,21 +43,20 @@ fn check_other<D: Domain>(
 // Checks that a path of the first machine is infeasible: it is followed up to its last step, whose other answer must be settled by what is known then.
 pub fn check_infeasible<D: Domain>(
     slots: &mut Slots<'_, D>,
-    walker: Walker<'_>,
-    start: u32,
+    side: Side,
+    start: State<'_>,
     path: &[bool],
     known: &mut KnownTests,
     outputs: &mut Outputs,
 ) -> Result<(), RuleFault>
-    requires state { There walker.table.words.now start }
-    requires room { known.old.count + length path.now ≤ 24 }
-    ensures { told_rule result ≡ never_taken D.ops (table_machine walker.entry.table.words.now) path.now (track_seen walker.entry.side start known.old outputs.old (forms slots.old)) }
+    requires { known.old.count + length path.now ≤ 24 }
+    ensures { told_rule result ≡ never_taken D.ops (table_machine start.entry.table.words.now) path.now (track_seen side start.entry.number known.old outputs.old (forms slots.old)) }
 {
     if path.is_empty() {
         return Err(RuleFault::NotInfeasible);
     }
     let last = path.len() - 1;
     let (front, _) = path.split_at(last);
-    let state = follow(slots, walker, start, front, known, outputs)?;
-    check_other(slots, walker, state, path[last], known, outputs)
+    let state = follow(slots, side, start, front, known, outputs)?;
+    check_other(slots, side, state, path[last], known, outputs)
 }

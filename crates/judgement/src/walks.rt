@@ -13,13 +13,14 @@ use crate::outputs::compare_outputs;
 use crate::states::states_of;
 use crate::tables::Tables;
 use domain::Domain;
+use machine::accepted::State;
 use machine::which::Which;
 use rules::pairs::KeptPair;
 use rules::starting::start;
 use walk::known::KnownTests;
 use walk::outputs::Outputs;
 use walk::path::{follow, follow_settled};
-use walk::side::{Side, Walker};
+use walk::side::Side;
 use workspace::layout::{FIRST_OUTPUTS, FIRST_REGISTERS, SECOND_OUTPUTS, SECOND_REGISTERS};
 use workspace::{Group, Slots};
 
@@ -77,11 +78,11 @@ pub fn walk_both<D: Domain>(
     let mut seen = Outputs::empty(0);
     let first = follow(
         slots,
-        Walker {
+        one,
+        State {
             table: tables.first,
-            side: one,
+            number: from.first,
         },
-        from.first,
         first,
         &mut known,
         &mut seen,
@@ -89,19 +90,19 @@ pub fn walk_both<D: Domain>(
     let mut other = Outputs::empty(0);
     let second = follow_settled(
         slots,
-        Walker {
+        two,
+        State {
             table: tables.second,
-            side: two,
+            number: from.second,
         },
-        from.second,
         second,
         &known,
         &mut other,
     )?;
     compare_outputs(slots, &seen, &other)?;
     Ok(Walked {
-        first,
-        second,
+        first: first.number,
+        second: second.number,
         known,
     })
 }
@@ -127,11 +128,11 @@ pub fn infeasible_rules<D: Domain>(
     let mut outputs = Outputs::empty(0);
     check_infeasible(
         slots,
-        Walker {
+        one,
+        State {
             table: tables.first,
-            side: one,
+            number: from.first,
         },
-        from.first,
         path,
         &mut known,
         &mut outputs,

@@ -1,10 +1,10 @@
 // The reader: whether words are a table, judged word by word.
-ghost use Rattle.std.specs.Prelude.{◌≡◌, ◌<◌, ◌≤◌, length, IfOk, if◌then◌else◌};
+ghost use Rattle.std.specs.Prelude.{◌≡◌, ◌<◌, ◌≤◌, length, IfOk, IfSome, if◌then◌else◌};
 ghost use Rattle.machine.specs.Accepted.{told_counts};
 ghost use Rattle.machine.specs.declared.table.TableFault.TheVariants as TableFault;
 ghost use Rattle.machine.specs.Reading.{table_figures, told, of_words, fresh, acts, marked, transition, row, rows, table};
 
-use crate::accepted::Table;
+use crate::accepted::{State, Table};
 use crate::head::{BadHead, Head};
 use crate::refusal::Refusal;
 use crate::words::{Reader, WordFault};
@@ -186,5 +186,18 @@ impl<'a> Table<'a> {
     {
         let head = read_table(words)?;
         Ok(Table { words, head })
+    }
+
+    // The state with this number, if the table has it.
+    pub fn state(self, number: u32) -> Option<State<'a>>
+        ensures { IfSome result (λ s. (s.table ≡ self.entry) × (s.number ≡ number)) }
+    {
+        if number >= self.head.states {
+            return None;
+        }
+        Some(State {
+            table: self,
+            number,
+        })
     }
 }

@@ -14,7 +14,7 @@ use Rattle.walk.specs.Settled.{Known}
 use Rattle.walk.specs.Walk.{Track, step, walk, learn, must}
 use Rattle.walk.specs.Seen.{known_seen, KeptApart}
 use Rattle.walk.proofs.Learned.{known_kept}
-use Rattle.machine.specs.Tables.{There, table_machine}
+use Rattle.machine.specs.Tables.{table_machine}
 use Rattle.walk.specs.Taking.{track_seen, Reached, reached, only_reached, beside, reached_seen, told_walk, KeptOtherSide}
 
 module _ {D : Type 0} (o : Ops D) (ask : ℕ → List (Known D) → Answer (Unit {0})) (m : Machine) where
@@ -39,16 +39,14 @@ module _ {D : Type 0} (o : Ops D) (ask : ℕ → List (Known D) → Answer (Unit
 -- the rest of the path from here is the whole from the start
 pub record Following {D : Type 0} (o : Ops D) (side : Side) (words : List ℕ) (path : List Bool) (start : ℕ) (known₀ : KnownTests) (outputs₀ : Outputs) (base : List (Form D)) (i state : ℕ) (known : KnownTests) (outputs : Outputs) (fs : List (Form D)) : Type 0 where
   pub walks : walk o (learn o) (table_machine words) i (drop i path) (track_seen side state known outputs fs) ≡ walk o (learn o) (table_machine words) 0 path (track_seen side start known₀ outputs₀ base)
-  pub there : There words state
   pub room : known.count + (length path - i) ≤ 24
   pub kept : KeptOtherSide side base fs
 
 module _ {D : Type 0} (o : Ops D) (side : Side) (words : List ℕ) (path : List Bool) (start : ℕ) (known₀ : KnownTests) (outputs₀ : Outputs) (base : List (Form D)) (i state : ℕ) (known : KnownTests) (outputs : Outputs) (fs : List (Form D)) (inv : Following o side words path start known₀ outputs₀ base i state known outputs fs) where
-  pub one_step : (s : ℕ) (known' : KnownTests) (outputs' : Outputs) (fs' : List (Form D)) → i < length path → good (track_seen side s known' outputs' fs') ≡ step o (λ tests. good tt) (row_at (table_machine words) state) (get_or path i false) (track_seen side state known outputs fs) → There words s → known'.count ≤ known.count + 1 → KeptOtherSide side fs fs' → Following o side words path start known₀ outputs₀ base (i + 1) s known' outputs' fs'
-  one_step s known' outputs' fs' lt steps there count kept = record {
+  pub one_step : (s : ℕ) (known' : KnownTests) (outputs' : Outputs) (fs' : List (Form D)) → i < length path → good (track_seen side s known' outputs' fs') ≡ step o (λ tests. good tt) (row_at (table_machine words) state) (get_or path i false) (track_seen side state known outputs fs) → known'.count ≤ known.count + 1 → KeptOtherSide side fs fs' → Following o side words path start known₀ outputs₀ base (i + 1) s known' outputs' fs'
+  one_step s known' outputs' fs' lt steps count kept = record {
     walks = ap (λ a. a then λ u. walk o (learn o) (table_machine words) (i + 1) (drop (i + 1) path) u) steps
         ∙ sym (walk_at o (learn o) (table_machine words) path i (track_seen side state known outputs fs) lt) ∙ inv.walks;
-    there = there;
     room = (let r = inv.room in omega arith);
     kept = λ j a b c. kept j a b c ∙ inv.kept j a b c;
   }
@@ -73,7 +71,6 @@ module _ {D : Type 0} where
 
 pub record FollowingSettled {D : Type 0} (o : Ops D) (side : Side) (words : List ℕ) (path : List Bool) (start : ℕ) (known : KnownTests) (outputs₀ : Outputs) (base : List (Form D)) (i state : ℕ) (outputs : Outputs) (fs : List (Form D)) : Type 0 where
   pub walks : (tests : List (Known D)) → (more : List (Known D)) × (only_reached (walk o (must o (known_seen known.items base 0 known.count)) (table_machine words) i (drop i path) (beside more (reached_seen side state outputs fs))) ≡ only_reached (walk o (must o (known_seen known.items base 0 known.count)) (table_machine words) 0 path (beside tests (reached_seen side start outputs₀ base))))
-  pub there : There words state
   pub kept : KeptApart side base fs
 
 module _ {D : Type 0} (o : Ops D) (side : Side) (words : List ℕ) (path : List Bool) (start : ℕ) (known : KnownTests) (outputs₀ : Outputs) (base : List (Form D)) (i state : ℕ) (outputs : Outputs) (fs : List (Form D)) (inv : FollowingSettled o side words path start known outputs₀ base i state outputs fs) where
@@ -100,14 +97,13 @@ module _ {D : Type 0} (o : Ops D) (side : Side) (words : List ℕ) (path : List 
       ∙ ap (λ k. step o (must o k i) (row_at (table_machine words) state) (get_or path i false) (here more) then rest) (sym still_known)
       ∙ ap (λ b. b then rest) e
 
-  pub settled_on : (s : ℕ) (outputs' : Outputs) (fs' : List (Form D)) → i < length path → ((tests : List (Known D)) → good (reached_seen side s outputs' fs') ≡ only_reached (step o (must o (known_seen known.items fs 0 known.count) i) (row_at (table_machine words) state) (get_or path i false) (beside tests (reached_seen side state outputs fs)))) → There words s → KeptApart side fs fs' → FollowingSettled o side words path start known outputs₀ base (i + 1) s outputs' fs'
+  pub settled_on : (s : ℕ) (outputs' : Outputs) (fs' : List (Form D)) → i < length path → ((tests : List (Known D)) → good (reached_seen side s outputs' fs') ≡ only_reached (step o (must o (known_seen known.items fs 0 known.count) i) (row_at (table_machine words) state) (get_or path i false) (beside tests (reached_seen side state outputs fs)))) → KeptApart side fs fs' → FollowingSettled o side words path start known outputs₀ base (i + 1) s outputs' fs'
   unfolding here rest known₀
-  settled_on s outputs' fs' lt steps there kept = record {
+  settled_on s outputs' fs' lt steps kept = record {
     walks = λ tests.
         (let w = inv.walks tests in
         let u = only_good _ (reached_seen side s outputs' fs') (steps w.0) in
         (u.0, ap only_reached (sym (at_step w.0 _ lt u.1)) ∙ w.1));
-    there = there;
     kept = λ j a b c. kept j a b c ∙ inv.kept j a b c;
   }
 
@@ -123,9 +119,9 @@ module _ {D : Type 0} (o : Ops D) (side : Side) (words : List ℕ) (path : List 
       ap only_reached (sym (walk_ended o (must o (known_seen known.items base 0 known.count)) (table_machine words) path i (beside w.0 (reached_seen side state outputs fs)) h)) ∙ w.1
 
   -- whatever the fault
-  pub settled_fault : (y : WalkFault) (after after' : ℕ → Reached D) → i < length path → ((tests : List (Known D)) → told_walk (Err y) after ≡ only_reached (step o (must o (known_seen known.items fs 0 known.count) i) (row_at (table_machine words) state) (get_or path i false) (beside tests (reached_seen side state outputs fs)))) → (tests : List (Known D)) → told_walk (Err y) after' ≡ only_reached (walk o (must o (known_seen known.items base 0 known.count)) (table_machine words) 0 path (beside tests (reached_seen side start outputs₀ base)))
+  pub settled_fault : {A B : Type 0} (y : WalkFault) (after : A → Reached D) (after' : B → Reached D) → i < length path → ((tests : List (Known D)) → told_walk (Err y) after ≡ only_reached (step o (must o (known_seen known.items fs 0 known.count) i) (row_at (table_machine words) state) (get_or path i false) (beside tests (reached_seen side state outputs fs)))) → (tests : List (Known D)) → told_walk (Err y) after' ≡ only_reached (walk o (must o (known_seen known.items base 0 known.count)) (table_machine words) 0 path (beside tests (reached_seen side start outputs₀ base)))
   settled_fault OverLimits after after' lt steps = settled_not 11 0 0 lt steps
   settled_fault (Unsettled k) after after' lt steps = settled_not 14 2 k lt steps
 
-pub settled_start : {D : Type 0} (o : Ops D) (side : Side) (words : List ℕ) (path : List Bool) (start : ℕ) (known : KnownTests) (outputs : Outputs) (base : List (Form D)) → There words start → FollowingSettled o side words path start known outputs base 0 start outputs base
-settled_start o side words path start known outputs base there = record { walks = λ tests. (tests, refl); there = there; kept = λ i a b c. refl }
+pub settled_start : {D : Type 0} (o : Ops D) (side : Side) (words : List ℕ) (path : List Bool) (start : ℕ) (known : KnownTests) (outputs : Outputs) (base : List (Form D)) → FollowingSettled o side words path start known outputs base 0 start outputs base
+settled_start o side words path start known outputs base = record { walks = λ tests. (tests, refl); kept = λ i a b c. refl }

@@ -58,10 +58,9 @@ target_there words row turn (Some s) there e = subst (There words) (sym (a_turn 
 
 pub record Ordering (words : List ℕ) (path : List Bool) (start i state : ℕ) : Type 0 where
   pub orders : (which : ℕ) → in_order which (table_machine words) i state (drop i path) ≡ in_order which (table_machine words) 0 start path
-  pub there : There words state
 
-pub order_start : (words : List ℕ) (path : List Bool) (start : ℕ) → There words start → Ordering words path start 0 start
-order_start words path start there = record { orders = λ which. refl; there = there }
+pub order_start : (words : List ℕ) (path : List Bool) (start : ℕ) → Ordering words path start 0 start
+order_start words path start = record { orders = λ which. refl }
 
 module _ (words : List ℕ) (path : List Bool) (start i state : ℕ) (inv : Ordering words path start i state) where
   pub order_end : length path ≤ i → (which : ℕ) → good tt ≡ in_order which (table_machine words) 0 start path
@@ -85,8 +84,8 @@ module _ (words : List ℕ) (path : List Bool) (start i state : ℕ) (inv : Orde
           let there = eq-eqb (chosen (row_at (table_machine words) state) (get_or path i false)).target 0 (sym t.1 ∙ zero_there) in
           refused_at which (ap (λ b. b && (is_last (drop (i + 1) path) || not (eqb (chosen (row_at (table_machine words) state) (get_or path i false)).target 0))) t.0 ∙ ap₂ (λ b c. b || not c) last there)
 
-      pub order_on : (s ≢ 0) ⊎ (length path ≤ i + 1) → There words s → Ordering words path start (i + 1) s
-      order_on h there =
+      pub order_on : (s ≢ 0) ⊎ (length path ≤ i + 1) → Ordering words path start (i + 1) s
+      order_on h =
           let t = a_turn (row_at (table_machine words) state) (get_or path i false) _ s refl e in
           let target = (chosen (row_at (table_machine words) state) (get_or path i false)).target in
           let fine : (is_last (drop (i + 1) path) || not (eqb target 0)) ≡ true = elim h [
@@ -97,5 +96,4 @@ module _ (words : List ℕ) (path : List Bool) (start i state : ℕ) (inv : Orde
             orders = λ which. ap (λ x. in_order which (table_machine words) (i + 1) x (drop (i + 1) path)) t.1
                 ∙ sym (order_at (table_machine words) which path i state lt ∙ ap₂ (λ b c. check (b && c) 12 which i then λ u. in_order which (table_machine words) (i + 1) target (drop (i + 1) path)) t.0 fine)
                 ∙ inv.orders which;
-            there = there;
           }

@@ -5,6 +5,7 @@ use Rattle.expression.specs.declared.item.Item.{Item}
 use Rattle.expression.specs.declared.test.Test.{Test}
 use Rattle.expression.specs.Shape.{is_expression}
 use Rattle.forms.specs.Forms.{Form}
+use Rattle.machine.specs.declared.accepted.State.{State}
 use Rattle.machine.specs.Answer.{Answer, good, refused}
 use Rattle.machine.specs.Machine.{Machine, Action, store, emit, Transition, Row, straight, branch, chosen, Each}
 use Rattle.workspace.specs.Layout.{left_at}
@@ -75,7 +76,7 @@ track_seen side state known outputs fs = record {
 }
 
 -- What a call leaves whose one refusal is over the limits (11).
-abbrev pub told_over : {X E : Type 0} → Result ℕ E → (ℕ → X) → Answer X
+abbrev pub told_over : {A X E : Type 0} → Result A E → (A → X) → Answer X
 told_over (Ok s) f = good (f s)
 told_over (Err e) f = refused 11 0 0
 
@@ -108,17 +109,22 @@ abbrev pub beside : {D : Type 0} → List (Known D) → Reached D → Track D
 beside tests r = record { state = r.state; registers = r.registers; known = tests; outputs = r.outputs }
 
 -- What a walk of the second machine leaves: its refusals are over the limits (11), and a turn that is not settled (14, of machine 2 at its step).
-abbrev pub told_walk : {X : Type 0} → Result ℕ WalkFault → (ℕ → X) → Answer X
+abbrev pub told_walk : {A X : Type 0} → Result A WalkFault → (A → X) → Answer X
 told_walk (Ok s) f = good (f s)
 told_walk (Err OverLimits) f = refused 11 0 0
 told_walk (Err (Unsettled i)) f = refused 14 2 i
 
 -- A step, and a walk, whose every turn is settled by what is known, whatever tests stand beside.
-abbrev pub SettledStep : {D : Type 0} → Ops D → List (Known D) → (index : ℕ) → Row → Bool → Result ℕ WalkFault → (before : Reached D) → (after : ℕ → Reached D) → Type 0
+abbrev pub SettledStep : {D A : Type 0} → Ops D → List (Known D) → (index : ℕ) → Row → Bool → Result A WalkFault → (before : Reached D) → (after : A → Reached D) → Type 0
 SettledStep o known index row turn r before after = (tests : List (Known _)) → told_walk r after ≡ only_reached (step o (must o known index) row turn (beside tests before))
 
-abbrev pub SettledWalk : {D : Type 0} → Ops D → List (Known D) → (m : Machine) → (index : ℕ) → List Bool → Result ℕ WalkFault → (before : Reached D) → (after : ℕ → Reached D) → Type 0
+abbrev pub SettledWalk : {D A : Type 0} → Ops D → List (Known D) → (m : Machine) → (index : ℕ) → List Bool → Result A WalkFault → (before : Reached D) → (after : A → Reached D) → Type 0
 SettledWalk o known m index path r before after = (tests : List (Known _)) → told_walk r after ≡ only_reached (walk o (must o known) m index path (beside tests before))
+
+-- A state by its number.
+abbrev pub numbered : Option State → Option ℕ
+numbered None = None
+numbered (Some s) = Some s.number
 
 -- The state that a turn leads to; a straight row has no turn no.
 abbrev pub allowed_target : Row → Bool → Option ℕ

@@ -13,6 +13,7 @@ pub struct Bounded<T, const N: usize> {
     ghost few: { count ≤ N },
 }
 
+// (By hand: over a ghost field and a type parameter Clone is not derived.)
 impl<T: Copy, const N: usize> Clone for Bounded<T, N> {
     ghost is_clone = { λ a b. b ≡ a };
 

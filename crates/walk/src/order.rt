@@ -4,11 +4,11 @@ ghost use Rattle.machine.specs.Machine.{row_at};
 ghost use Rattle.machine.specs.Reading.{row_of};
 ghost use Rattle.machine.specs.Views.{ahead};
 ghost use Rattle.machine.specs.Tables.{IsTable, There, table_machine};
-ghost use Rattle.walk.specs.Taking.{allowed_target, InOrder, When};
+ghost use Rattle.walk.specs.Taking.{numbered, allowed_target, InOrder, When};
 
 use crate::steps::row_there;
 use crate::testing::choose;
-use machine::accepted::Table;
+use machine::accepted::State;
 use machine::row::Row;
 use machine::table::read_table;
 use machine::view::Part;
@@ -30,12 +30,15 @@ fn target_of(row: Row<'_>, turn: bool) -> Option<u32>
 }
 
 // The same from a state.
-pub fn step_target(table: Table<'_>, state: u32, turn: bool) -> Option<u32>
-    requires state { There table.words.now state }
-    ensures target { result ≡ allowed_target (row_at (table_machine table.entry.words.now) state) turn }
-    ensures there { IfSome result (λ s. There table.entry.words.now s) }
+pub fn step_target(state: State<'_>, turn: bool) -> Option<State<'_>>
+    ensures target { numbered result ≡ allowed_target (row_at (table_machine state.entry.table.words.now) state.entry.number) turn }
+    ensures table { IfSome result (λ s. s.table ≡ state.entry.table) }
 {
-    target_of(row_there(table, state), turn)
+    let number = target_of(row_there(state), turn)?;
+    Some(State {
+        table: state.table,
+        number,
+    })
 }
 
 // Whether words are a table with this state.
@@ -46,13 +49,6 @@ pub fn is_there(words: &[u32], state: u32) -> bool
         Ok(head) => state < head.states,
         Err(_) => false,
     }
-}
-
-// Whether a table has this state.
-pub fn has_state(table: Table<'_>, state: u32) -> bool
-    ensures { When result (There table.entry.words.now state) }
-{
-    state < table.head.states
 }
 
 // The first step of a path that is impossible.
@@ -69,16 +65,15 @@ fn resets_early(target: u32, next: usize, length: usize) -> bool
 }
 
 // Checks a path: no turn no at a straight row, and no step into state 0 before the last. The first step that is impossible is told.
-pub fn check_order(table: Table<'_>, start: u32, path: &[bool]) -> Result<(), ImpossibleStep>
-    requires state { There table.words.now start }
-    ensures { InOrder (table_machine table.entry.words.now) start path.now result }
+pub fn check_order(start: State<'_>, path: &[bool]) -> Result<(), ImpossibleStep>
+    ensures { InOrder (table_machine start.entry.table.words.now) start.entry.number path.now result }
 {
     let mut state = start;
     for (index, turn) in path.iter().enumerate() {
-        let Some(target) = step_target(table, state, *turn) else {
+        let Some(target) = step_target(state, *turn) else {
             return Err(ImpossibleStep { step: index });
         };
-        if resets_early(target, index + 1, path.len()) {
+        if resets_early(target.number, index + 1, path.len()) {
             return Err(ImpossibleStep { step: index });
         }
         state = target;

@@ -2,7 +2,6 @@
 ghost use Rattle.std.specs.Prelude.{◌+◌, ◌≤◌};
 ghost use Rattle.walk.specs.Places.{known_first};
 
-use machine::accepted::Table;
 use workspace::Group;
 
 // The slots of its registers, among the first 32, and the first of its sixteen outputs, behind them and before the known tests.
@@ -13,11 +12,4 @@ pub struct Side {
     ghost low: { registers.first + registers.count ≤ 32 },
     ghost behind: { 32 ≤ outputs },
     ghost before: { outputs + 16 ≤ known_first },
-}
-
-// A machine that walks: its table, and where its forms are kept.
-#[derive(Clone, Copy)]
-pub struct Walker<'a> {
-    pub table: Table<'a>,
-    pub side: Side,
 }

@@ -14,66 +14,71 @@ use crate::fault::WalkFault;
 use crate::known::KnownTests;
 use crate::learning::{is_put_settled, learn_put};
 use crate::outputs::Outputs;
-use crate::side::Walker;
+use crate::side::Side;
 use crate::taking::take_transition;
 use crate::testing::put_test;
 use domain::Domain;
-use machine::accepted::Table;
+use machine::accepted::State;
 use machine::row::Row;
 use machine::view::row_of;
 use workspace::{OverLimits, Slots};
 
 // The row of a state that is there.
-pub fn row_there<'a>(table: Table<'a>, state: u32) -> Row<'a>
-    requires { There table.words.now state }
-    ensures row { row_of (ahead result) ≡ row_at (table_machine table.entry.words.now) state }
+pub fn row_there<'a>(state: State<'a>) -> Row<'a>
+    ensures row { row_of (ahead result) ≡ row_at (table_machine state.entry.table.words.now) state.entry.number }
     ensures readable { ReadableRow (row_of (ahead result)) }
-    ensures targets { GoesThere table.entry.words.now (row_of (ahead result)) }
+    ensures targets { GoesThere state.entry.table.words.now (row_of (ahead result)) }
 {
-    row_of(table.words, state).unwrap()
+    row_of(state.table.words, state.number).unwrap()
 }
 
 // A step of the first machine: a test becomes known with the turn taken. The state that it goes to.
-pub fn learn_step<D: Domain>(
+pub fn learn_step<'a, D: Domain>(
     slots: &mut Slots<'_, D>,
-    walker: Walker<'_>,
-    state: u32,
+    side: Side,
+    state: State<'a>,
     turn: bool,
     known: &mut KnownTests,
     outputs: &mut Outputs,
-) -> Result<u32, OverLimits>
-    requires state { There walker.table.words.now state }
-    requires room { known.old.count < 24 }
-    ensures steps { told_over result (λ s. track_seen walker.entry.side s known.new outputs.new (forms slots.new)) ≡ step D.ops (λ tests. good tt) (row_at (table_machine walker.entry.table.words.now) state) turn (track_seen walker.entry.side state known.old outputs.old (forms slots.old)) }
-    ensures state { IfOk result (λ s. There walker.entry.table.words.now s) }
+) -> Result<State<'a>, OverLimits>
+    requires { known.old.count < 24 }
+    ensures steps { told_over result (λ s. track_seen side s.number known.new outputs.new (forms slots.new)) ≡ step D.ops (λ tests. good tt) (row_at (table_machine state.entry.table.words.now) state.entry.number) turn (track_seen side state.entry.number known.old outputs.old (forms slots.old)) }
+    ensures table { IfOk result (λ s. s.table ≡ state.entry.table) }
     ensures count { OnOk result (known.new.count ≤ known.old.count + 1) }
-    ensures kept { OnOk result (KeptOtherSide walker.entry.side (forms slots.old) (forms slots.new)) }
+    ensures kept { OnOk result (KeptOtherSide side (forms slots.old) (forms slots.new)) }
 {
-    let mut row = row_there(walker.table, state);
-    let test = put_test(slots, &mut row, walker.side.registers, turn)?;
+    let mut row = row_there(state);
+    let test = put_test(slots, &mut row, side.registers, turn)?;
     learn_put(slots, known, test, turn);
-    take_transition(slots, &mut row, walker.side, outputs)
+    let number = take_transition(slots, &mut row, side, outputs)?;
+    Ok(State {
+        table: state.table,
+        number,
+    })
 }
 
 // Step `index` of the second machine: its turn must be settled by what is known. The state that it goes to.
-pub fn settled_step<D: Domain>(
+pub fn settled_step<'a, D: Domain>(
     slots: &mut Slots<'_, D>,
-    walker: Walker<'_>,
-    state: u32,
+    side: Side,
+    state: State<'a>,
     turn: bool,
     index: usize,
     known: &KnownTests,
     outputs: &mut Outputs,
-) -> Result<u32, WalkFault>
-    requires state { There walker.table.words.now state }
-    ensures steps { SettledStep D.ops (known_seen known.now.items (forms slots.old) 0 known.now.count) index (row_at (table_machine walker.entry.table.words.now) state) turn result (reached_seen walker.entry.side state outputs.old (forms slots.old)) (λ s. reached_seen walker.entry.side s outputs.new (forms slots.new)) }
-    ensures state { IfOk result (λ s. There walker.entry.table.words.now s) }
-    ensures kept { OnOk result (KeptApart walker.entry.side (forms slots.old) (forms slots.new)) }
+) -> Result<State<'a>, WalkFault>
+    ensures steps { SettledStep D.ops (known_seen known.now.items (forms slots.old) 0 known.now.count) index (row_at (table_machine state.entry.table.words.now) state.entry.number) turn result (reached_seen side state.entry.number outputs.old (forms slots.old)) (λ s. reached_seen side s.number outputs.new (forms slots.new)) }
+    ensures table { IfOk result (λ s. s.table ≡ state.entry.table) }
+    ensures kept { OnOk result (KeptApart side (forms slots.old) (forms slots.new)) }
 {
-    let mut row = row_there(walker.table, state);
-    let test = put_test(slots, &mut row, walker.side.registers, turn)?;
+    let mut row = row_there(state);
+    let test = put_test(slots, &mut row, side.registers, turn)?;
     if !is_put_settled(slots, known, test, turn) {
         return Err(WalkFault::Unsettled(index));
     }
-    Ok(take_transition(slots, &mut row, walker.side, outputs)?)
+    let number = take_transition(slots, &mut row, side, outputs)?;
+    Ok(State {
+        table: state.table,
+        number,
+    })
 }

@@ -6,15 +6,15 @@ ghost use Rattle.workspace.specs.Layout.{slot_count};
 
 use domain::word::Word;
 use forms::Term;
-use machine::accepted::Table;
+use machine::accepted::{State, Table};
 use samples::{COUNTER, test_name, zero_terms};
 use std::io;
 use walk::fault::WalkFault;
 use walk::known::{KnownTests, none_known};
-use walk::order::{check_order, has_state};
+use walk::order::check_order;
 use walk::outputs::Outputs;
 use walk::path::{follow, follow_settled};
-use walk::side::{Side, Walker};
+use walk::side::Side;
 use workspace::layout::{
     FIRST_OUTPUTS, FIRST_REGISTERS, KNOWN, ROOM, SECOND_OUTPUTS, SECOND_REGISTERS,
 };
@@ -113,23 +113,20 @@ fn print_second(
     let Ok(table) = Table::read(&SECOND) else {
         return println!(rt; "  second: no table");
     };
-    if !has_state(table, way.state) {
+    let Some(start) = table.state(way.state) else {
         return println!(rt; "  second: not walked");
-    }
+    };
     begin(slots, SECOND_REGISTERS, way.state);
     let mut outputs = Outputs::empty(0);
     match follow_settled(
         slots,
-        Walker {
-            table,
-            side: SECOND_SIDE,
-        },
-        way.state,
+        SECOND_SIDE,
+        start,
         &[way.turn],
         known,
         &mut outputs,
     ) {
-        Ok(state) => println!(rt; "  second: settled, state {state}"),
+        Ok(State { number, .. }) => println!(rt; "  second: settled, state {number}"),
         Err(WalkFault::Unsettled(step)) => println!(rt; "  second: not settled at step {step}"),
         Err(WalkFault::OverLimits) => println!(rt; "  second: over the limits"),
     }
@@ -142,10 +139,13 @@ fn print_first(rt: &HostRuntime, row: &mut [Term<Word>], way: Way) -> io::Result
     let Ok(table) = Table::read(&COUNTER) else {
         return println!(rt; "  no table");
     };
-    if row.len() < ROOM || !has_state(table, start) {
+    let Some(from) = table.state(start) else {
+        return println!(rt; "  not walked");
+    };
+    if row.len() < ROOM {
         return println!(rt; "  not walked");
     }
-    if check_order(table, start, &[turn]).is_err() {
+    if check_order(from, &[turn]).is_err() {
         return println!(rt; "  impossible");
     }
     let mut slots = Slots::empty(row);
@@ -154,16 +154,13 @@ fn print_first(rt: &HostRuntime, row: &mut [Term<Word>], way: Way) -> io::Result
     let mut outputs = Outputs::empty(0);
     match follow(
         &mut slots,
-        Walker {
-            table,
-            side: FIRST_SIDE,
-        },
-        start,
+        FIRST_SIDE,
+        from,
         &[turn],
         &mut known,
         &mut outputs,
     ) {
-        Ok(state) => println!(rt; "  to state {state}")?,
+        Ok(State { number, .. }) => println!(rt; "  to state {number}")?,
         Err(_) => return println!(rt; "  over the limits"),
     }
     print_side(rt, &slots, &outputs)?;

@@ -11,16 +11,16 @@ pub returns-then-not-is_settled : goal.returns-then-not-is_settled
 returns-then-not-is_settled g c =
     let fs = forms c.args.slots.now in
     let fs' = forms c.put_test.new.slots in
-    let side = c.args.walker.side in
+    let side = c.args.side in
     let asked = at_hand fs' (record { test = c.in-Some.test; says = not c.args.turn }) in
     let put : Some (asked ∷ []) ≡ tested g.D.Domain.ops (row_of (ahead c.row_there-row.result)) (not c.args.turn) (kept_seen fs side.registers.first side.registers.count) = search rules in
-    other_told g.D.Domain.ops side c.args.state c.args.known.now c.args.outputs.now fs fs' _ _ c.args.turn asked _ put c.row_there-row.ensures.row c.in_ok-test.ensures.kept c.if-not-is_settled.ensures
+    other_told g.D.Domain.ops side c.args.state.number c.args.known.now c.args.outputs.now fs fs' _ _ c.args.turn asked _ put c.row_there-row.ensures.row c.in_ok-test.ensures.kept c.if-not-is_settled.ensures
 
 pub returns : goal.returns
 returns g c =
     let fs = forms c.args.slots.now in
     let fs' = forms c.put_test.new.slots in
-    let side = c.args.walker.side in
+    let side = c.args.side in
     let asked = at_hand fs' (record { test = c.in-Some.test; says = not c.args.turn }) in
     let put : Some (asked ∷ []) ≡ tested g.D.Domain.ops (row_of (ahead c.row_there-row.result)) (not c.args.turn) (kept_seen fs side.registers.first side.registers.count) = search rules in
-    other_told g.D.Domain.ops side c.args.state c.args.known.now c.args.outputs.now fs fs' _ _ c.args.turn asked _ put c.row_there-row.ensures.row c.in_ok-test.ensures.kept c.if-not-is_settled.ensures
+    other_told g.D.Domain.ops side c.args.state.number c.args.known.now c.args.outputs.now fs fs' _ _ c.args.turn asked _ put c.row_there-row.ensures.row c.in_ok-test.ensures.kept c.if-not-is_settled.ensures

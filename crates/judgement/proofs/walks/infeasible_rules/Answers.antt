@@ -16,13 +16,13 @@ returns-in_err-known g c =
     rw (p.1, p.2) (infeasible_over g.D.Domain.ops (table_machine c.args.tables.first.words.now) (kept_pair c.args.tables.counts c.args.pair.now) c.args.path.now c.in_err-known.ensures.starts)
 
 pub check_infeasible-requires : goal.check_infeasible-requires
-check_infeasible-requires g c =
+check_infeasible-requires g c = omega (arith, c.in_ok-known.ensures.few, c.requires.short)
+
+pub invariant_of-check_infeasible : goal.invariant_of-check_infeasible
+invariant_of-check_infeasible g c =
     let t = c.args.tables in
     let P : ℕ → Type 0 = λ s. There t.first.words.now s in
-    record {
-      state = subst P (sym c.states_of-from.ensures.first) (first_there t.first.words.now t.second.words.now t.counts (opened_of c.args.tables) c.args.pair.now c.requires.kept);
-      room = omega (arith, c.in_ok-known.ensures.few, c.requires.short);
-    }
+    record { there = subst P (sym c.states_of-from.ensures.first) (first_there t.first.words.now t.second.words.now t.counts (opened_of c.args.tables) c.args.pair.now c.requires.kept) }
 
 pub returns : goal.returns
 returns g c =

@@ -1,4 +1,5 @@
-use Rattle.std.proofs.Common.{ap, ◌∙◌}
+use Rattle.std.proofs.Common.{ℕ, Ok, Err, Result, refl, ap, ◌∙◌}
+use Rattle.std.proofs.lemmas.Result.{err_from_is_err_and}
 use Rattle.machine.specs.Answer.{good}
 use Rattle.machine.specs.Reading.{transition_of, row_of}
 use Rattle.machine.specs.Views.{ahead}
@@ -8,10 +9,33 @@ use Rattle.walk.specs.Taking.{track_seen}
 use Rattle.walk.proofs.Stepped.{learned_step, other_side, arrives, one_put}
 use Rattle.walk.proofs.steps.learn_step.Goals as goal
 
+pub returns-in_err-number : goal.returns-in_err-number
+returns-in_err-number g c =
+    let o = g.D.Domain.ops in
+    let number = c.args.state.number in
+    let row = row_of (ahead c.row_there-row.result) in
+    let fs = forms c.args.slots.now in
+    let k = c.args.known.now in
+    let out = c.args.outputs.now in
+    let e = c.in_ok-test.ensures in
+    let l = c.learn_put.ensures in
+    let a = c.in_err-number.ensures in
+    let none : Result ℕ (Unit {0}) = Err tt in
+    let p = err_from_is_err_and c.from_residual-in_err-number.result c.from_residual-in_err-number.ensures.1 in
+    let v = learned_step o c.args.side row c.args.turn number k c.learn_put.new.known out c.take_transition.new.outputs c.in_ok-test.test fs (forms c.put_test.new.slots) (forms c.learn_put.new.slots) (forms c.take_transition.new.slots) e.tests e.kept l.known l.kept none (transition_of (ahead c.put_test.new.row)) e.goes tt tt a.acted in
+    rw p.1 (record { steps = v ∙ ap (λ x. step o (λ tests. good tt) x c.args.turn (track_seen c.args.side number k out fs)) c.row_there-row.ensures.row; table = tt; count = tt; kept = tt })
+
+pub invariant_of-result : goal.invariant_of-result
+invariant_of-result g c =
+    let row = row_of (ahead c.row_there-row.result) in
+    let left : Result ℕ (Unit {0}) = Ok c.in_ok-number.number in
+    record { there = arrives c.args.state.table.words.now row c.args.turn (transition_of (ahead c.put_test.new.row)) left c.row_there-row.ensures.targets c.in_ok-test.ensures.goes c.in_ok-number.ensures.target }
+
 pub returns : goal.returns
 returns g c =
     let o = g.D.Domain.ops in
-    let side = c.args.walker.side in
+    let side = c.args.side in
+    let number = c.args.state.number in
     let row = row_of (ahead c.row_there-row.result) in
     let fs = forms c.args.slots.now in
     let f₁ = forms c.put_test.new.slots in
@@ -19,17 +43,18 @@ returns g c =
     let f₃ = forms c.take_transition.new.slots in
     let e = c.in_ok-test.ensures in
     let l = c.learn_put.ensures in
-    let a = c.take_transition.ensures in
+    let a = c.in_ok-number.ensures in
     let t = transition_of (ahead c.put_test.new.row) in
     let k = c.args.known.now in
     let k' = c.learn_put.new.known in
     let out = c.args.outputs.now in
     let out' = c.take_transition.new.outputs in
     let test = c.in_ok-test.test in
+    let left : Result ℕ (Unit {0}) = Ok c.in_ok-number.number in
     record {
-      steps = learned_step o side row c.args.turn c.args.state k k' out out' test fs f₁ f₂ f₃ e.tests e.kept l.known l.kept c.take_transition.result t e.goes a.target a.kept a.acted
-          ∙ ap (λ x. step o (λ tests. good tt) x c.args.turn (track_seen side c.args.state k out fs)) c.row_there-row.ensures.row;
-      state = arrives c.args.walker.table.words.now row c.args.turn t c.take_transition.result c.row_there-row.ensures.targets e.goes a.target;
-      count = one_put k k' test c.args.turn f₁ c.take_transition.result l.count;
-      kept = other_side o side row c.args.turn c.args.state k k' out out' test fs f₁ f₂ f₃ e.tests e.kept l.known l.kept c.take_transition.result t e.goes a.target a.kept a.acted c.take_transition.result a.kept;
+      steps = learned_step o side row c.args.turn number k k' out out' test fs f₁ f₂ f₃ e.tests e.kept l.known l.kept left t e.goes a.target a.kept a.acted
+          ∙ ap (λ x. step o (λ tests. good tt) x c.args.turn (track_seen side number k out fs)) c.row_there-row.ensures.row;
+      table = refl;
+      count = one_put k k' test c.args.turn f₁ left l.count;
+      kept = other_side o side row c.args.turn number k k' out out' test fs f₁ f₂ f₃ e.tests e.kept l.known l.kept left t e.goes a.target a.kept a.acted left a.kept;
     }
