@@ -34,6 +34,7 @@ pub fn row_there<'a>(table: Table<'a>, state: u32) -> Row<'a>
 }
 
 // A step of the first machine: a test becomes known with the turn taken. The state that it goes to.
+// Not one with `settled_step`: they differ in what becomes of a test, in the error, and in what they promise of the known tests.
 pub fn learn_step<D: Domain>(
     slots: &mut Slots<'_, D>,
     walker: Walker<'_>,
