@@ -18,6 +18,7 @@ fn input(rt: &HostRuntime) -> io::Result<Vec<u8>> {
 }
 
 // The counts of a table, or its refusal.
+// `number` is the printed figure, 1 or 2.
 fn print_table(rt: &HostRuntime, number: u32, words: &[u32]) -> io::Result<()> {
     match read_table(words) {
         Ok(head) => {

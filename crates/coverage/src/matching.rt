@@ -22,6 +22,7 @@ fn start_of(claim: Claim) -> u32
 }
 
 // The first path of a claim.
+// Not one with `start_of`: they are two fields of a claim.
 fn path_of(claim: Claim) -> Path
     ensures { result ≡ path_of claim }
 {
@@ -51,6 +52,7 @@ fn has_length(filed: u32, length: u32, along: Along) -> bool
 }
 
 // Whether a filed path is this path, or a longer one that begins with it.
+// (The path is what is looked for, and `along` says how.)
 fn is_along(filed: Path, path: Path, along: Along) -> bool
     ensures { result ≡ ((if is_longer along then nat_lt path.length filed.length else (path.length == filed.length)) && same_turns path.length path.turns filed.turns) }
 {

@@ -12,6 +12,7 @@ use walk::order::step_target;
 const DEPTH: u32 = 17;
 
 // A path with one turn more.
+// (A turn is a bool: yes or no is the value itself.)
 fn extended(path: Path, turn: bool) -> Path
     requires tidy { Tidy path }
     requires short { path.length < 17 }

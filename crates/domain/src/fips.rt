@@ -54,6 +54,7 @@ fn logarithm(a: u8) -> u8
 }
 
 // The product of two bytes, by adding logarithms.
+// (Two bytes: they are the two factors.)
 pub fn product(a: u8, b: u8) -> u8
     ensures { result ≡ byte_times a b }
 {

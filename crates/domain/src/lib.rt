@@ -36,6 +36,7 @@ pub trait Domain: Copy {
         ensures { result ≡ ops.mul self other };
 
     // Whether the two are one value.
+    // No `PartialEq` or `Ord`: these are the domain's own tests, whose laws say what they decide.
     fn same(self, other: Self) -> bool
         ensures { result ≡ ops.same self other };
 

@@ -36,6 +36,7 @@ pub struct Expression<'a> {
 
 impl<'a> Expression<'a> {
     // These words, if they are an expression.
+    // No `TryFrom`: words that are none have no error to tell.
     pub fn of(words: &'a [u32]) -> Option<Expression<'a>>
         ensures some { IfSome result (λ e. e.words.now ≡ words.now) }
         ensures none { IfNone result (is_expression (map item_of words.now) ≡ false) }

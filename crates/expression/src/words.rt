@@ -26,6 +26,7 @@ impl From<u32> for Item {
 
 impl Item {
     // What a word of this kind and number stands for.
+    // Operations by number: it is the format's own (docs/TABLE-FORMAT.md).
     fn at(kind: Kind, n: u32) -> Item
         ensures { result ≡ item (kind_number kind) n }
     {

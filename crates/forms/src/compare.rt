@@ -9,6 +9,7 @@ use crate::term::Term;
 use domain::Domain;
 
 impl<D: Domain> Term<D> {
+    // No derived equality: coefficients are compared by the domain's own test.
     pub fn same(self, other: Term<D>) -> bool
         ensures is { result ≡ same_term D.ops self other }
         ensures decides { Decides result (self ≡ other) }

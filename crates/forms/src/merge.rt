@@ -45,6 +45,7 @@ fn next<'a, D: Domain>(
 }
 
 // The sum of the parts `a` and `b`, written from `at` on.
+// No iterator: two slices shrink at different rates, and `n` counts what is written, which can be less than what is read.
 pub fn merge<D: Domain>(row: &mut [Term<D>], a: Span, b: Span, at: usize) -> Span
     requires a { Within a at }
     requires b { Within b at }

@@ -22,6 +22,7 @@ impl<D: Domain> Term<D> {
 }
 
 // The part `b` times the term `x`, written from `at` on.
+// `n` counts what is written, which can be less than what is read.
 pub fn scale<D: Domain>(row: &mut [Term<D>], x: Term<D>, b: Span, at: usize) -> Span
     requires b { Within b at }
     requires room { at + (b.to - b.from) ≤ length row.old }

@@ -14,6 +14,7 @@ use workspace::{Level, Workspace};
 // The terms below the level.
 const BELOW: usize = 3;
 
+// Words as the format has them.
 const ONE: u32 = 0x10000001;
 
 const TWO: u32 = 0x10000002;

@@ -20,6 +20,7 @@ use walk::testing::put_test;
 use workspace::Slots;
 
 // Whether the step from a state is at a test whose other answer is settled; its actions are not worked out.
+// (A turn is a bool: yes or no is the value itself.)
 fn check_other<D: Domain>(
     slots: &mut Slots<'_, D>,
     side: Side,

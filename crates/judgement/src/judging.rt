@@ -14,6 +14,7 @@ use rules::pairs::KeptPair;
 use workspace::Slots;
 
 // A claim with both its paths: the words of its pairs, of which pair 0 has none, and its own words, which hold the substitution.
+// Words and not kept pairs: they are kept by the counts of the tables, which stand beside the claim.
 #[derive(Clone, Copy)]
 pub struct LiveClaim<'a> {
     pub start: &'a [u32],

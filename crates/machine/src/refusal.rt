@@ -7,6 +7,7 @@ pub trait Refusal: Copy {
     // the figures that are told
     ghost figures: { Self → Figures };
 
+    // A number and no enum: it is the printed figure of docs/REFUSALS.md.
     fn number(self) -> u32
         ensures { result ≡ (figures self).number };
 

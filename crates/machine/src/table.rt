@@ -75,6 +75,7 @@ const MOST_ACTIONS: usize = 8;
 const MOST_REGISTERS: usize = 16;
 
 // Whether `end` may end the action with this expression; a register that it stores is marked.
+// No heap: the marks are an array, one for each register that there can be.
 fn act(items: &[u32], end: u32, stored: &mut [bool; 16]) -> bool
     ensures answer { result ≡ acts items.now stored.old end }
     ensures marks { stored.new ≡ (if result then marked stored.old end else stored.old) }
@@ -97,6 +98,7 @@ fn act(items: &[u32], end: u32, stored: &mut [bool; 16]) -> bool
 
 impl Reader<'_> {
     // The place behind the transition that begins at `from`.
+    // A loop that ends inside: a `for` over the actions would need a value behind it.
     fn transition_end(&self, from: usize) -> Result<usize, TableFault>
         requires { from ≤ length self.now.words.now }
         ensures reads { told result ≡ transition self.now.limits self.now.words.now 8 fresh from }
@@ -143,6 +145,7 @@ impl Reader<'_> {
     }
 
     // The place behind the first `n` rows; the first stands behind the head.
+    // By number: where a row begins is told by the one before it. Not one with `facts_end`: what is read and its fault are others.
     pub(crate) fn rows_end(&self, n: u32) -> Result<usize, TableFault>
         requires { 1 ≤ length self.now.words.now }
         ensures reads { told result ≡ rows self.now.limits self.now.words.now n }

@@ -82,6 +82,7 @@ impl<'a> Row<'a> {
     }
 
     // Goes on behind the transition at the cursor; the state that it goes to.
+    // No iterator: parts are read off the row, which goes on behind the last that was read.
     pub fn skip_transition(&mut self) -> u32
         ensures target { result ≡ (transition_of (ahead self.old)).target }
         ensures rest { ahead self.new ≡ behind (ahead self.old) }

@@ -5,6 +5,7 @@ use std::alloc::{AllocError, Global};
 use std::{io, iter};
 
 // One state; two states with two registers and one input.
+// Words as the format has them.
 const ONE: u32 = 0x00010000;
 
 const TWO: u32 = 0x00020201;

@@ -24,6 +24,7 @@ fn tell(rt: &HostRuntime, part: Part<'_>) -> io::Result<()> {
     }
 }
 
+// A row is no iterator: its parts are read off it.
 fn show(rt: &HostRuntime, words: &[u32], state: u32) -> io::Result<()> {
     let Some(mut row) = row_of(words, state) else {
         return println!(rt; "row {state}: none");
@@ -36,6 +37,7 @@ fn show(rt: &HostRuntime, words: &[u32], state: u32) -> io::Result<()> {
     println!(rt; "")
 }
 
+// Rows by the number of the state, one more than there are.
 pub fn counter(rt: &HostRuntime) -> io::Result<()> {
     judge(rt, "the counter", &COUNTER)?;
     for state in 0..3 {

@@ -8,6 +8,7 @@ use expression::words::number_of;
 use machine::words::next_end;
 
 // A fact in words: where its second expression begins, where its test stands, and that test with its answer.
+// (An answer is a bool: yes or no is the value itself.)
 #[derive(Clone, Copy)]
 pub struct FactAt {
     pub cut: usize,

@@ -20,6 +20,7 @@ fn fact_end(reader: &Reader<'_>, from: usize) -> Result<usize, WordFault>
 }
 
 // The place behind this many facts.
+// By number: where a fact begins is told by the one before it. Not one with `rows_end`: what is read and its fault are others.
 pub fn facts_end(reader: &Reader<'_>, facts: u32, from: usize) -> Result<usize, WordFault>
     ensures { told_as 6 result ≡ behind (read_facts reader.now.limits facts reader.now.words.now from) }
 {

@@ -64,6 +64,7 @@ fn head_of(one: &Head, two: &Head, word: u32) -> Result<PairHead, PairFault>
 }
 
 // Whether a mask has ones for registers only, and every register without one has the symbol of its number.
+// By number: a register without a bit is looked for among the symbols by its number.
 fn mask_fits(mask: u32, registers: u32, symbols: u32) -> bool
     ensures { result ≡ (nat_lt mask (2 ^ registers) && symbols_exist (bits registers mask) 0 symbols) }
 {
@@ -131,6 +132,7 @@ fn read_body(one: &Head, two: &Head, words: &[u32], head: PairHead) -> Result<Pa
 }
 
 // The counts of a pair of two machines with these counts, or the first fault of its words.
+// (Two heads: the caller has them apart, and nothing is said of both together.)
 pub fn read_pair(one: &Head, two: &Head, words: &[u32]) -> Result<PairHead, PairFault>
     ensures { pair_told result ≡ the_counts (read_pair one.now two.now words.now) }
 {

@@ -23,6 +23,7 @@ pub fn stored_at(reader: &Reader<'_>, due: u32, from: usize) -> Result<usize, Wo
 }
 
 // The place behind one expression for each symbol below `symbols`, rising.
+// By number: it is the symbol that is due, and where an expression begins is told by the one before it.
 pub fn substitution_end(reader: &Reader<'_>, symbols: u32, from: usize) -> Result<usize, WordFault>
     ensures reads { told_as 7 result ≡ behind (all_stored 7 reader.now.limits (count_from 0 symbols) reader.now.words.now from) }
 {
@@ -34,6 +35,7 @@ pub fn substitution_end(reader: &Reader<'_>, symbols: u32, from: usize) -> Resul
 }
 
 // The place behind one expression for each one in `mask`, registers rising.
+// A turn for each bit: where an expression begins is told by the one before it.
 pub fn masked_end(reader: &Reader<'_>, mask: u32, from: usize) -> Result<usize, WordFault>
     ensures { (n : ℕ) → mask < 2 ^ n → told_as 6 result ≡ behind (all_stored 6 reader.now.limits (due (bits n mask) 0) reader.now.words.now from) }
 {

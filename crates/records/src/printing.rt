@@ -42,6 +42,7 @@ impl fmt::Display for Values {
     }
 }
 
+// Not one with that of domains: two types, each with its own words.
 impl fmt::Display for FileFault {
     ghost output = { λ fault. Some (fault_bytes fault) };
 
@@ -55,6 +56,7 @@ impl fmt::Display for FileFault {
 
 impl Line {
     // The line's bytes, without the line feed.
+    // Beside `to_string`, so that a contract names the bytes.
     pub fn text(&self, heap: Global) -> Result<String, AllocError>
         ensures { IfOk result (λ s. string_bytes s ≡ line_bytes self.now) }
     {

@@ -11,6 +11,7 @@ use std::alloc::Global;
 pub const LONGEST: usize = 65536;
 
 // The words of the bytes, big-endian.
+// (The heap is lent to each call.)
 fn words_of(heap: Global, bytes: &[u8]) -> Result<Vec<u32>, FileFault>
     ensures { Reads vec_items result (words_of bytes.now) }
 {

@@ -24,6 +24,7 @@ use workspace::layout::{FIRST_REGISTERS, LEFT, SECOND_REGISTERS, SUBSTITUTION};
 use workspace::{Group, Slots, Symbols};
 
 // The registers of a machine, with these forms for symbols, have the forms reached. The place behind their expressions.
+// By number: it is the register that a refusal names, and where its expression begins is told by the one before it.
 fn check_registers<D: Domain>(
     slots: &mut Slots<'_, D>,
     symbols: Group,
@@ -47,6 +48,7 @@ fn check_registers<D: Domain>(
 }
 
 // The facts from a place on, with these forms for symbols, are settled by what is known.
+// By number: where a fact begins is told by the one before it, and the number is the place of the refusal.
 fn check_facts<D: Domain>(
     slots: &mut Slots<'_, D>,
     symbols: Group,

@@ -20,6 +20,7 @@ use workspace::layout::{LEFT, RIGHT};
 use workspace::{OverLimits, Slots, Symbols};
 
 // The sides of the fact at a place become those of the test at hand.
+// (The words stay, and the place goes on from fact to fact.)
 pub fn work_out_fact<D: Domain>(
     slots: &mut Slots<'_, D>,
     symbols: Symbols,
@@ -43,6 +44,7 @@ pub fn work_out_fact<D: Domain>(
 }
 
 // The facts from a place on become known, symbols standing for themselves.
+// Not one with `check_facts`: this learns each fact, that asks about it. By number: where a fact begins is told by the one before it.
 pub fn learn_facts<D: Domain>(
     slots: &mut Slots<'_, D>,
     words: &[u32],

@@ -110,6 +110,7 @@ pub fn work_out_register<D: Domain>(
 
 // A group of slots gets the forms of as many registers, symbols standing for themselves; the other slots below the stack are kept.
 // The place behind their expressions.
+// By number: where an expression begins is told by the one before it.
 pub fn work_out_registers<D: Domain>(
     slots: &mut Slots<'_, D>,
     words: &[u32],

@@ -23,6 +23,7 @@ fn proposal_leaves(symbols: Symbols) -> Leaves
 }
 
 // Slot `to` gets the form of an expression; the other slots below the stack are kept.
+// Not one with that of `walk`: both are one call of `evaluate_into`, and what differs is the definition that the clause names.
 pub fn work_out<D: Domain>(
     slots: &mut Slots<'_, D>,
     symbols: Symbols,

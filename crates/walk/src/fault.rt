@@ -5,6 +5,7 @@ ghost use Rattle.walk.specs.declared.fault.WalkFault.TheVariants as WalkFault;
 use workspace::OverLimits;
 
 // A value over the limits or a seventeenth output, or a turn that is not settled, with its step.
+// No `Option`: both are refusals, each with its number.
 #[derive(Clone, Copy)]
 pub enum WalkFault {
     OverLimits,

@@ -5,6 +5,7 @@ use crate::bounded::Bounded;
 use expression::test::Test;
 
 // A test with its answer.
+// (An answer is a bool: yes or no is the value itself.)
 #[derive(Clone, Copy)]
 pub struct Noted {
     pub test: Test,

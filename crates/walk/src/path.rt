@@ -16,6 +16,8 @@ use machine::accepted::State;
 use workspace::{OverLimits, Slots};
 
 // Follows a path of the first machine: each test becomes known with the turn taken. The state at its end.
+// Not one with `follow_settled`: their steps differ, and a rule handed in would be a third contract.
+// Slots, known tests and outputs are lent one by one: they have different owners, and every body would take a struct of them apart.
 pub fn follow<'a, D: Domain>(
     slots: &mut Slots<'_, D>,
     side: Side,

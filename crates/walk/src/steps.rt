@@ -33,6 +33,7 @@ pub fn row_there<'a>(state: State<'a>) -> Row<'a>
 }
 
 // A step of the first machine: a test becomes known with the turn taken. The state that it goes to.
+// Not one with `settled_step`: they differ in what becomes of a test, in the error, and in what they promise of the known tests.
 pub fn learn_step<'a, D: Domain>(
     slots: &mut Slots<'_, D>,
     side: Side,

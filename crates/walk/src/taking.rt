@@ -18,6 +18,7 @@ use machine::view::Part;
 use workspace::{OverLimits, Slots};
 
 // Reads the actions of the transition at the cursor: stores wait, outputs are appended. The state that it goes to.
+// No iterator: parts are read off the row, which goes on behind the last that was read.
 fn hold_actions<D: Domain>(
     slots: &mut Slots<'_, D>,
     row: &mut Row<'_>,

@@ -18,6 +18,7 @@ use workspace::layout::{LEFT, RIGHT};
 use workspace::{Group, OverLimits, Slots};
 
 // Behind a test: goes to the transition that a turn selects.
+// (A turn is a bool: yes or no is the value itself.)
 pub fn choose(row: &mut Row<'_>, turn: bool)
     ensures { transition_of (ahead row.new) ≡ (if turn then transition_of (ahead row.old) else transition_of (behind (ahead row.old))) }
 {

@@ -22,6 +22,7 @@ fn table_leaves(registers: Group) -> Leaves
 }
 
 // Slot `to` gets the form of an expression; the other slots below the stack are kept.
+// Not one with that of `rules`: both are one call of `evaluate_into`, and what differs is the definition that the clause names.
 pub fn work_out<D: Domain>(
     slots: &mut Slots<'_, D>,
     registers: Group,

@@ -45,6 +45,7 @@ const SECOND_SIDE: Side = Side {
 };
 
 // A path of one step, from a state.
+// (A turn is a bool: yes or no is the value itself.)
 #[derive(Clone, Copy)]
 struct Way {
     state: u32,
@@ -81,6 +82,7 @@ fn print_form(rt: &HostRuntime, slots: &Slots<'_, Word>, what: &str, k: usize) -
 }
 
 // The forms of a side: registers, then outputs.
+// (Registers by number: their slots stand one behind the other.)
 fn print_side(rt: &HostRuntime, slots: &Slots<'_, Word>, outputs: &Outputs) -> io::Result<()> {
     for r in 0..3 {
         print_form(rt, slots, "register slot", FIRST_REGISTERS + r)?;
@@ -171,6 +173,7 @@ fn print_first(rt: &HostRuntime, row: &mut [Term<Word>], way: Way) -> io::Result
     Ok(())
 }
 
+// From each state by its number.
 fn run(rt: &HostRuntime) -> anyhow::Result<()> {
     let mut row = zero_terms(rt.alloc(), ROOM)?;
     for state in 0..2 {

@@ -99,6 +99,7 @@ impl<D: Domain> Slots<'_, D> {
     }
 
     // Slot `to` gets the sum of the forms of two slots.
+    // (Slots by number, one by one: each operation takes its own, and they are no group.)
     pub fn sum(&mut self, a: usize, b: usize, to: usize) -> Result<(), OverLimits>
         requires slots { (a < slot_count) × ((b < slot_count) × (to < slot_count)) }
         ensures forms { told result (forms self.new) ≡ give to (Forms.sum D.ops (slice_index_or (forms self.old) a []) (slice_index_or (forms self.old) b [])) (forms self.old) }
@@ -223,6 +224,7 @@ impl<D: Domain> Slots<'_, D> {
     }
 
     // Whether two slots have one form.
+    // By the numbers of the slots: a form in a slot is no value that could be compared by itself.
     pub fn same(&self, a: usize, b: usize) -> bool
         requires slots { (a < slot_count) × (b < slot_count) }
         ensures { result ≡ Forms.same_form D.ops (slice_index_or (forms self.now) a []) (slice_index_or (forms self.now) b []) }

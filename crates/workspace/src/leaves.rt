@@ -6,6 +6,7 @@ ghost use Rattle.workspace.specs.Evaluation.{no_group};
 use crate::group::Group;
 
 // What symbols stand for: themselves, or the forms kept in slots.
+// No `Option`: symbols that stand for themselves are no absence.
 #[derive(Clone, Copy)]
 pub enum Symbols {
     Own,

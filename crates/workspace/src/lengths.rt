@@ -5,6 +5,7 @@ ghost use Rattle.workspace.specs.Slots.{place};
 use forms::Span;
 
 // How many terms the form in each slot has.
+// No heap: an array of fixed length beside the row.
 #[derive(Clone, Copy)]
 pub struct Lengths {
     pub of: [u8; 162],

@@ -26,6 +26,7 @@ pub struct Workspace<'a, D> {
 }
 
 // Whether two expressions have one form, where the leaves stand for forms in the slots.
+// (An expression and what its leaves stand for change from call to call.)
 pub fn compare_forms<D: Domain>(
     slots: &mut Slots<'_, D>,
     leaves: Leaves,
