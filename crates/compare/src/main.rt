@@ -3,6 +3,7 @@
 
 use machine::refusal::Refusal;
 use machine::table::read_table;
+use machine::which::Which;
 use records::file::{File, FileFault, Part};
 use records::line::Line;
 use records::reading;
@@ -18,8 +19,8 @@ fn input(rt: &HostRuntime) -> io::Result<Vec<u8>> {
 }
 
 // The counts of a table, or its refusal.
-// `number` is the printed figure, 1 or 2.
-fn print_table(rt: &HostRuntime, number: u32, words: &[u32]) -> io::Result<()> {
+fn print_table(rt: &HostRuntime, which: Which, words: &[u32]) -> io::Result<()> {
+    let number = which.number();
     match read_table(words) {
         Ok(head) => {
             let (states, registers, inputs) = (head.states, head.registers, head.inputs);
@@ -37,8 +38,8 @@ fn print_table(rt: &HostRuntime, number: u32, words: &[u32]) -> io::Result<()> {
 fn print_records(rt: &HostRuntime, file: &File) -> io::Result<()> {
     let (values, shared) = (file.values, file.shared);
     println!(rt; "start: {values}, {shared} shared")?;
-    print_table(rt, 1, &file.first)?;
-    print_table(rt, 2, &file.second)?;
+    print_table(rt, Which::First, &file.first)?;
+    print_table(rt, Which::Second, &file.second)?;
     for part in &file.parts {
         let (name, words) = match part {
             Part::Pair(words) => ("pair", words),

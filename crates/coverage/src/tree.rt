@@ -65,10 +65,7 @@ pub fn unmatched_from(claims: &[Claim], pair: u32, state: State<'_>) -> Option<P
     ensures found { Lacks claims.now state.entry.table.words.now pair state.entry.number result }
     ensures tidy { IfSome result Tidy }
 {
-    let tree = Tree {
-        claims,
-        pair,
-    };
+    let tree = Tree { claims, pair };
     let root = Path {
         length: 0,
         turns: 0,

@@ -120,14 +120,7 @@ fn print_second(
     };
     begin(slots, SECOND_REGISTERS, way.state);
     let mut outputs = Outputs::empty(0);
-    match follow_settled(
-        slots,
-        SECOND_SIDE,
-        start,
-        &[way.turn],
-        known,
-        &mut outputs,
-    ) {
+    match follow_settled(slots, SECOND_SIDE, start, &[way.turn], known, &mut outputs) {
         Ok(State { number, .. }) => println!(rt; "  second: settled, state {number}"),
         Err(WalkFault::Unsettled(step)) => println!(rt; "  second: not settled at step {step}"),
         Err(WalkFault::OverLimits) => println!(rt; "  second: over the limits"),

@@ -28,7 +28,7 @@ loop-turn-preserved g c =
     let e = c.in_ok-state.ensures in
     let steps = e.steps ∙ ap (λ t. step o (λ tests. good tt) (row_at (table_machine t.words.now) c.loop-turn.state.number) turn here) c.loop-turn.invariant.1 in (
       one_step o c.args.side c.args.start.table.words.now c.args.path.now c.args.start.number _ _ _ c.loop-turn.turn-index c.loop-turn.state.number _ _ _ c.loop-turn.invariant.0
-      c.in_ok-state.state.number c.learn_step.new.known c.learn_step.new.outputs (forms c.learn_step.new.slots) c.loop-turn-test.true steps e.count e.kept,
+          c.in_ok-state.state.number c.learn_step.new.known c.learn_step.new.outputs (forms c.learn_step.new.slots) c.loop-turn-test.true steps e.count e.kept,
       e.table ∙ c.loop-turn.invariant.1,
     )
 

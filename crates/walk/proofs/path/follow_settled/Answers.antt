@@ -36,9 +36,9 @@ loop-index-preserved g c =
     let e = c.in_ok-state.ensures in
     let lt : c.loop-index.index < length c.args.path.now = omega arith in (
       settled_on o c.args.side c.args.start.table.words.now c.args.path.now c.args.start.number known _ _ c.loop-index.index c.loop-index.state.number _ _ c.loop-index.invariant.0
-      c.in_ok-state.state.number c.settled_step.new.outputs (forms c.settled_step.new.slots) lt
-      (λ tests. e.steps tests ∙ ap (λ t. only_reached (step o (must o (known_seen known.items fs 0 known.count) c.loop-index.index) (row_at (table_machine t.words.now) c.loop-index.state.number) turn (beside tests here))) c.loop-index.invariant.1)
-      e.kept,
+          c.in_ok-state.state.number c.settled_step.new.outputs (forms c.settled_step.new.slots) lt
+          (λ tests. e.steps tests ∙ ap (λ t. only_reached (step o (must o (known_seen known.items fs 0 known.count) c.loop-index.index) (row_at (table_machine t.words.now) c.loop-index.state.number) turn (beside tests here))) c.loop-index.invariant.1)
+          e.kept,
       e.table ∙ c.loop-index.invariant.1,
     )
 
