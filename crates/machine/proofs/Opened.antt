@@ -1,5 +1,5 @@
 -- An accepted table: its machine, and the states below its count.
-use Rattle.std.proofs.Common.{◌≡◌, ℕ, ◌<◌, List, sym, ap, ◌∙◌, arith}
+use Rattle.std.proofs.Common.{◌≡◌, ℕ, ◌<◌, ◌≤◌, List, length, sym, ap, ◌∙◌, arith}
 use Rattle.machine.specs.declared.accepted.Table.{Table}
 use Rattle.machine.specs.declared.head.Head.{Head}
 use Rattle.machine.specs.Answer.{good, ◌then◌}
@@ -19,8 +19,16 @@ module _ (words : List ℕ) (h : Head) (accepted : table words ≡ good h) where
       let counted = sound_tables.heads words h (table_machine words) accepted machine_is in
       let c = counted.states in omega arith
 
+  pub lacks_state : (s : ℕ) → h.states ≤ s → length (table_machine words).rows ≤ s
+  lacks_state s le =
+      let counted = sound_tables.heads words h (table_machine words) accepted machine_is in
+      let c = counted.states in omega arith
+
 pub is_table : (t : Table) → IsTable t.words.now
 is_table t = machine_is t.words.now t.head t.accepted
 
 pub state_there : (t : Table) (s : ℕ) → s < t.head.states → There t.words.now s
 state_there t s lt = has_state t.words.now t.head t.accepted s lt
+
+pub state_beyond : (t : Table) (s : ℕ) → t.head.states ≤ s → length (table_machine t.words.now).rows ≤ s
+state_beyond t s le = lacks_state t.words.now t.head t.accepted s le

@@ -1,7 +1,8 @@
 // The reader: whether words are a table, judged word by word.
-ghost use Rattle.std.specs.Prelude.{◌≡◌, ◌<◌, ◌≤◌, length, IfOk, IfSome, if◌then◌else◌};
+ghost use Rattle.std.specs.Prelude.{◌≡◌, ◌<◌, ◌≤◌, length, IfOk, IfSome, IfNone, if◌then◌else◌};
 ghost use Rattle.machine.specs.Accepted.{told_counts};
 ghost use Rattle.machine.specs.declared.table.TableFault.TheVariants as TableFault;
+ghost use Rattle.machine.specs.Tables.{table_machine};
 ghost use Rattle.machine.specs.Reading.{table_figures, told, of_words, fresh, acts, marked, transition, row, rows, table};
 
 use crate::accepted::{State, Table};
@@ -37,7 +38,7 @@ impl From<WordFault> for TableFault {
 impl From<BadHead> for TableFault {
     ghost from_gives = { λ b f. f ≡ TableFault.BadHead };
 
-    fn from(b: BadHead) -> TableFault {
+    fn from(_: BadHead) -> TableFault {
         TableFault::BadHead
     }
 }
@@ -193,7 +194,8 @@ impl<'a> Table<'a> {
 
     // The state with this number, if the table has it.
     pub fn state(self, number: u32) -> Option<State<'a>>
-        ensures { IfSome result (λ s. (s.table ≡ self.entry) × (s.number ≡ number)) }
+        ensures some { IfSome result (λ s. (s.table ≡ self.entry) × (s.number ≡ number)) }
+        ensures none { IfNone result (length (table_machine self.entry.words.now).rows ≤ number) }
     {
         if number >= self.head.states {
             return None;

@@ -1,9 +1,8 @@
 // Which words may stand where: one rule for tables, pairs and claims.
 ghost use Rattle.std.specs.Prelude.{◌≡◌, ◌<◌, ◌≤◌, length, drop, IfOk};
-ghost use Rattle.expression.specs.Kinds.{kind_number};
 ghost use Rattle.machine.specs.Words.{bound, legal, ends, ending, word_told, stops, FirstPlace, FirstEnd};
 
-use expression::kind::Kind;
+use expression::kind::{Kind, NUMBERS};
 use expression::words::number_of;
 
 // How many numbers each kind of word has where it is read; a kind that may not stand there has none.
@@ -38,19 +37,20 @@ pub struct Reader<'a> {
 
 impl Limits {
     // How many numbers words of a kind may have.
-    pub fn bound_of(&self, kind: Kind) -> u32
-        ensures { result ≡ bound self.now (kind_number kind) }
+    // The kind by its number: it answers for any number, and a `Kind` would ask more of callers.
+    pub fn bound_of(&self, kind: u32) -> u32
+        ensures { result ≡ bound self.now kind }
     {
         match kind {
-            Kind::Constant => CONSTANTS,
-            Kind::Register => self.registers,
-            Kind::Input => self.inputs,
-            Kind::Symbol => self.symbols,
-            Kind::Operation => OPERATIONS,
-            Kind::Test => self.tests,
-            Kind::Store => self.stores,
-            Kind::Emit => self.ports,
-            Kind::Goto => self.states,
+            1 => CONSTANTS,
+            2 => self.registers,
+            3 => self.inputs,
+            4 => self.symbols,
+            5 => OPERATIONS,
+            6 => self.tests,
+            7 => self.stores,
+            8 => self.ports,
+            9 => self.states,
             _ => 0,
         }
     }
@@ -59,7 +59,7 @@ impl Limits {
     pub fn allows(&self, word: u32) -> bool
         ensures { result ≡ legal self.now word }
     {
-        number_of(word) < self.bound_of(Kind::from(word))
+        number_of(word) < self.bound_of(word / NUMBERS)
     }
 }
 

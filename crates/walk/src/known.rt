@@ -19,8 +19,9 @@ pub type KnownTests = Bounded<Noted, 24>;
 pub fn none_known() -> KnownTests
     ensures { result.count ≡ 0 }
 {
-    Bounded::empty(Noted {
+    let blank = Noted {
         test: Test::Same,
         says: false,
-    })
+    };
+    Bounded::empty(blank)
 }

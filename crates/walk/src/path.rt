@@ -49,6 +49,7 @@ pub fn follow_settled<'a, D: Domain>(
 ) -> Result<State<'a>, WalkFault>
     ensures walks { SettledWalk D.ops (known_seen known.now.items (forms slots.old) 0 known.now.count) (table_machine start.entry.table.words.now) 0 path.now result (reached_seen side start.entry.number outputs.old (forms slots.old)) (λ s. reached_seen side s.number outputs.new (forms slots.new)) }
     ensures kept { OnOk result (KeptApart side (forms slots.old) (forms slots.new)) }
+    ensures table { IfOk result (λ s. s.table ≡ start.entry.table) }
 {
     let mut state = start;
     for (index, turn) in path.iter().enumerate() {

@@ -1,5 +1,5 @@
 use Rattle.std.proofs.Common.{rules}
-use Rattle.expression.proofs.Shapes.{expression_long, expression_is, lands_short, lands_over, lands_next, lands_end}
+use Rattle.expression.proofs.Shapes.{expression_long, expression_is, lands_short, lands_over, lands_end}
 use Rattle.expression.proofs.shape.is_expression.Goals as goal
 
 pub returns-then-words-gt-LONGEST : goal.returns-then-words-gt-LONGEST
@@ -7,9 +7,6 @@ returns-then-words-gt-LONGEST c = search (rules, expression_long)
 
 pub returns-then-t-depth : goal.returns-then-t-depth
 returns-then-t-depth c = search (rules, expression_is, lands_short, lands_over)
-
-pub loop-w-preserved : goal.loop-w-preserved
-loop-w-preserved c = search (rules, lands_next)
 
 pub returns : goal.returns
 returns c = search (rules, expression_is, lands_end)

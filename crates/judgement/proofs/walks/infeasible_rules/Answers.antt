@@ -15,9 +15,6 @@ returns-in_err-known g c =
     let p = err_from_is_err_and c.from_residual.result c.from_residual.ensures.1 in
     rw (p.1, p.2) (infeasible_over g.D.Domain.ops (table_machine c.args.tables.first.words.now) (kept_pair c.args.tables.counts c.args.pair.now) c.args.path.now c.in_err-known.ensures.starts)
 
-pub check_infeasible-requires : goal.check_infeasible-requires
-check_infeasible-requires g c = omega (arith, c.in_ok-known.ensures.few, c.requires.short)
-
 pub invariant_of-check_infeasible : goal.invariant_of-check_infeasible
 invariant_of-check_infeasible g c =
     let t = c.args.tables in

@@ -14,9 +14,6 @@ returns-in_err-known g c =
     let p = err_from_is_err_and c.from_residual.result c.from_residual.ensures.1 in
     rw (p.1, p.2) (never_started g.D.Domain.ops (table_machine t.first.words.now) (table_machine t.second.words.now) (kept_pair t.counts c.args.pair.now) c.args.first.now c.args.second.now c.in_err-known.ensures.starts)
 
-pub follow-requires : goal.follow-requires
-follow-requires g c = omega (arith, c.in_ok-known.ensures.few, c.requires.short)
-
 pub invariant_of-follow : goal.invariant_of-follow
 invariant_of-follow g c =
     let t = c.args.tables in

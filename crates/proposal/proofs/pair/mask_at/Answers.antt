@@ -2,10 +2,10 @@ use Rattle.std.proofs.Common.{rules}
 use Rattle.proposal.specs.Reading.{read_mask}
 use Rattle.proposal.proofs.pair.mask_at.Goals as goal
 
-pub returns-then-not-is_of : goal.returns-then-not-is_of
+pub returns-then-not-is_of-clause-reads : goal.returns-then-not-is_of-clause-reads
 unfolding read_mask
-returns-then-not-is_of c = search rules
+returns-then-not-is_of-clause-reads c = search rules
 
-pub returns : goal.returns
+pub returns-clause-reads : goal.returns-clause-reads
 unfolding read_mask
-returns c = search rules
+returns-clause-reads c = search rules

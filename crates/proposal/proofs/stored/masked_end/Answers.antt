@@ -4,9 +4,6 @@ use Rattle.proposal.proofs.Walk.{ones_positive, ones_cleared, no_ones, cleared_b
 use Rattle.proposal.proofs.Stores.{masked_more, masked_end}
 use Rattle.proposal.proofs.stored.masked_end.Goals as goal
 
-pub overflow_sub-left : goal.overflow_sub-left
-overflow_sub-left c = let h : 0 < ones c.loop-i.left = omega arith in omega (arith, ones_positive c.loop-i.left h)
-
 pub returns-in_err-place : goal.returns-in_err-place
 returns-in_err-place c = λ n h.
     (let some : 0 < ones c.loop-i.left = omega arith in

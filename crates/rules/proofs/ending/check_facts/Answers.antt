@@ -5,9 +5,6 @@ use Rattle.rules.proofs.FactsKnown.{facts_more}
 use Rattle.rules.proofs.FactsSettled.{ask_start, ask_over, ask_unsettled, ask_more, ask_end}
 use Rattle.rules.proofs.ending.check_facts.Goals as goal
 
-pub loop-i-init : goal.loop-i-init
-loop-i-init g c = ask_start g.D.Domain.ops c.args.symbols c.args.words.now c.args.facts c.args.place c.args.known.now (forms c.args.slots.now) c.requires.readable
-
 pub work_out_fact-requires : goal.work_out_fact-requires
 work_out_fact-requires g c = record {
   readable = (facts_more c.args.words.now c.loop-i.at c.loop-i.i c.args.facts c.loop-i-test.true c.loop-i.invariant.readable).0;
@@ -26,13 +23,6 @@ returns-then-not-is_settled g c =
       settles = ask_unsettled g.D.Domain.ops c.args.symbols c.args.words.now c.args.facts c.args.place c.args.known.now (forms c.args.slots.now) c.loop-i.i c.loop-i.at (forms c.loop-i.slots) c.loop-i.invariant c.loop-i-test.true
           c.in_ok-fact.fact e.kept.0 (forms c.work_out_fact.new.slots) e.value e.kept.1 c.is_settled.result c.is_settled.ensures c.if-not-is_settled.true;
     }
-
-pub overflow_add-at : goal.overflow_add-at
-overflow_add-at g c =
-    let ws = c.args.words.now in
-    let r = (facts_more ws c.loop-i.at c.loop-i.i c.args.facts c.loop-i-test.true c.loop-i.invariant.readable).0 in
-    let h : c.in_ok-fact.fact.end < length ws = subst (λ f. f.end < length ws) (sym c.in_ok-fact.ensures.kept.0) r.within in
-    search rules
 
 pub loop-i-preserved : goal.loop-i-preserved
 loop-i-preserved g c =

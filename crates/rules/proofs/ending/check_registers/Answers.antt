@@ -6,33 +6,24 @@ use Rattle.rules.proofs.Filling.{readable_more}
 use Rattle.rules.proofs.Comparing.{compare_start, compare_over, compare_unequal, compare_more, compare_end}
 use Rattle.rules.proofs.ending.check_registers.Goals as goal
 
-pub loop-register-init : goal.loop-register-init
-loop-register-init g c = compare_start g.D.Domain.ops c.args.symbols c.args.words.now c.args.from c.args.reached (which_number c.args.machine) (forms c.args.slots.now) c.requires.readable
-
-pub work_out_register-requires : goal.work_out_register-requires
-work_out_register-requires g c = record {
-  readable = (readable_more c.args.words.now c.loop-register.registers c.loop-register.register c.args.reached.count c.loop-register-test.true c.loop-register.invariant.readable).0;
-  slot = search rules;
-}
-
-pub returns-in_err-registers : goal.returns-in_err-registers
-returns-in_err-registers g c =
+pub returns-in_err-registers-clause-same : goal.returns-in_err-registers-clause-same
+returns-in_err-registers-clause-same g c =
     let p = err_from_is_err_and c.from_residual.result c.from_residual.ensures.1 in
     let v = compare_over g.D.Domain.ops c.args.symbols c.args.words.now c.args.from c.args.reached (which_number c.args.machine) (forms c.args.slots.now) c.loop-register.register c.loop-register.registers (forms c.loop-register.slots) c.loop-register.invariant c.loop-register-test.true c.in_err-registers.ensures.value in
-    rw (p.1, p.2) (record { same = v; kept = tt })
+    rw (p.1, p.2) v
 
-pub returns-then-not-same : goal.returns-then-not-same
-returns-then-not-same g c =
+pub returns-then-not-same-clause-same : goal.returns-then-not-same-clause-same
+returns-then-not-same-clause-same g c =
     let e = c.in_ok-registers.ensures in
     let v = compare_unequal g.D.Domain.ops c.args.symbols c.args.words.now c.args.from c.args.reached (which_number c.args.machine) (forms c.args.slots.now) c.loop-register.register c.loop-register.registers (forms c.loop-register.slots) c.loop-register.invariant c.loop-register-test.true (forms c.work_out_register.new.slots) e.value e.kept.1 c.same.result c.same.ensures c.if-not-same.true in
-    record { same = v; kept = tt }
+    v
 
 pub loop-register-preserved : goal.loop-register-preserved
 loop-register-preserved g c =
     let e = c.in_ok-registers.ensures in
     compare_more g.D.Domain.ops c.args.symbols c.args.words.now c.args.from c.args.reached (which_number c.args.machine) (forms c.args.slots.now) c.loop-register.register c.loop-register.registers (forms c.loop-register.slots) c.loop-register.invariant c.loop-register-test.true (forms c.work_out_register.new.slots) e.value e.kept.1 c.same.result c.same.ensures c.in_ok-registers.registers c.if-not-same.false e.kept.0
 
-pub returns : goal.returns
-returns g c =
+pub returns-clause-same : goal.returns-clause-same
+returns-clause-same g c =
     let v = compare_end g.D.Domain.ops c.args.symbols c.args.words.now c.args.from c.args.reached (which_number c.args.machine) (forms c.args.slots.now) c.loop-register.register c.loop-register.registers (forms c.loop-register.slots) c.loop-register.invariant c.loop-register-test.false in
-    record { same = v; kept = c.loop-register.invariant.kept }
+    v

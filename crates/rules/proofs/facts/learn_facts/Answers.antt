@@ -4,34 +4,19 @@ use Rattle.workspace.specs.Views.{forms}
 use Rattle.rules.proofs.FactsKnown.{facts_more, note_start, note_more, note_over, note_end}
 use Rattle.rules.proofs.facts.learn_facts.Goals as goal
 
-pub loop-i-init : goal.loop-i-init
-loop-i-init g c = note_start g.D.Domain.ops c.args.words.now c.args.facts c.args.place (forms c.args.slots.now) c.none_known-known.result c.none_known-known.ensures c.requires.readable
-
 pub work_out_fact-requires : goal.work_out_fact-requires
 work_out_fact-requires g c = record {
   readable = (facts_more c.args.words.now c.loop-i.at c.loop-i.i c.args.facts c.loop-i-test.true c.loop-i.invariant.readable).0;
 }
 
-pub returns-in_err-fact : goal.returns-in_err-fact
-returns-in_err-fact g c =
+pub returns-in_err-fact-clause-known : goal.returns-in_err-fact-clause-known
+returns-in_err-fact-clause-known g c =
     let p = err_from_is_err_and c.from_residual.result c.from_residual.ensures.1 in
     let v = note_over g.D.Domain.ops c.args.words.now c.args.facts c.args.place (forms c.args.slots.now) c.loop-i.i c.loop-i.at c.loop-i.known (forms c.loop-i.slots) c.loop-i.invariant c.loop-i-test.true c.in_err-fact.ensures.value in
-    rw p.1 (record { known = v; kept = tt })
-
-pub overflow_add-at : goal.overflow_add-at
-overflow_add-at g c =
-    let ws = c.args.words.now in
-    let r = (facts_more ws c.loop-i.at c.loop-i.i c.args.facts c.loop-i-test.true c.loop-i.invariant.readable).0 in
-    let h : c.in_ok-fact.fact.end < length ws = subst (λ f. f.end < length ws) (sym c.in_ok-fact.ensures.kept.0) r.within in
-    search rules
+    rw p.1 v
 
 pub loop-i-preserved : goal.loop-i-preserved
 loop-i-preserved g c =
     let e = c.in_ok-fact.ensures in
     note_more g.D.Domain.ops c.args.words.now c.args.facts c.args.place (forms c.args.slots.now) c.loop-i.i c.loop-i.at c.loop-i.known (forms c.loop-i.slots) c.loop-i.invariant c.loop-i-test.true
     c.in_ok-fact.fact (forms c.work_out_fact.new.slots) (forms c.learn.new.slots) c.learn.new.known e.value e.kept.0 e.kept.1 c.learn.ensures.known c.learn.ensures.count c.learn.ensures.kept
-
-pub returns : goal.returns
-returns g c =
-    let e = note_end g.D.Domain.ops c.args.words.now c.args.facts c.args.place (forms c.args.slots.now) c.loop-i.i c.loop-i.at c.loop-i.known (forms c.loop-i.slots) c.loop-i.invariant c.loop-i-test.false in
-    record { known = e; kept = (omega (arith, c.loop-i.invariant.count), c.loop-i.invariant.kept) }

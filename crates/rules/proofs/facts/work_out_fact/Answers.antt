@@ -4,16 +4,16 @@ use Rattle.rules.specs.Expressions.{fact_cut}
 use Rattle.rules.proofs.FactSides.{second_over, both, both_kept}
 use Rattle.rules.proofs.facts.work_out_fact.Goals as goal
 
-pub returns-in_err-work_out-2 : goal.returns-in_err-work_out-2
-returns-in_err-work_out-2 g c =
+pub returns-in_err-work_out-2-clause-value : goal.returns-in_err-work_out-2-clause-value
+returns-in_err-work_out-2-clause-value g c =
     let ws = c.args.words.now in
     let e = c.in_ok-work_out.ensures in
     let v = second_over g.D.Domain.ops c.args.symbols ws c.args.place c.fact_at-fact.result (fact_cut ws c.args.place) c.fact_at-fact.ensures.place (forms c.args.slots.now) (forms c.work_out.new.slots) e.kept e.value c.in_err-work_out-2.ensures.value in
     let p = err_from_is_err_and c.from_residual-in_err-work_out-2.result c.from_residual-in_err-work_out-2.ensures.1 in
-    rw p.1 (record { value = v; kept = tt })
+    rw p.1 v
 
-pub returns : goal.returns
-returns g c =
+pub returns-clause-value : goal.returns-clause-value
+returns-clause-value g c =
     let o = g.D.Domain.ops in
     let ws = c.args.words.now in
     let at = c.args.place in
@@ -23,7 +23,4 @@ returns g c =
     let e = c.in_ok-work_out.ensures in
     let f = c.in_ok-work_out-2.ensures in
     let is = c.fact_at-fact.ensures.place in
-    record {
-      value = both o c.args.symbols ws at c.fact_at-fact.result (fact_cut ws at) is fs f₁ e.kept e.value f₂ f.kept f.value;
-      kept = (is, both_kept o c.args.symbols ws at c.fact_at-fact.result (fact_cut ws at) is fs f₁ e.kept e.value f₂ f.kept);
-    }
+    both o c.args.symbols ws at c.fact_at-fact.result (fact_cut ws at) is fs f₁ e.kept e.value f₂ f.kept f.value

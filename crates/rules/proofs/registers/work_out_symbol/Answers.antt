@@ -9,10 +9,7 @@ use Rattle.rules.proofs.registers.work_out_symbol.Goals as goal
 pub invariant_of-work_out : goal.invariant_of-work_out
 invariant_of-work_out g c = record { is = rw c.word.ensures (symbol_expression c.args.symbol c.requires.small) }
 
-pub returns : goal.returns
-returns g c =
+pub returns-clause-value : goal.returns-clause-value
+returns-clause-value g c =
     let o = g.D.Domain.ops in
-    record {
-      value = c.work_out.ensures.value ∙ ap (λ i. form_in_proposal o (symbols_seen o c.args.symbols (forms c.args.slots.now)) (i ∷ [])) (ap item_of c.word.ensures ∙ symbol_item c.args.symbol c.requires.small);
-      kept = c.work_out.ensures.kept;
-    }
+    c.work_out.ensures.value ∙ ap (λ i. form_in_proposal o (symbols_seen o c.args.symbols (forms c.args.slots.now)) (i ∷ [])) (ap item_of c.word.ensures ∙ symbol_item c.args.symbol c.requires.small)

@@ -15,14 +15,14 @@ work_out_registers-requires g c =
     let parts = kept_parts k ws c.args.pair.now.fit c.args.pair.now.kept in
     record { readable = (found_first k ws parts c.first_registers.result c.first_registers.ensures).1 }
 
-pub returns-in_err-behind_first : goal.returns-in_err-behind_first
-returns-in_err-behind_first g c =
+pub returns-in_err-behind_first-clause-starts : goal.returns-in_err-behind_first-clause-starts
+returns-in_err-behind_first-clause-starts g c =
     let k = c.args.pair.now.counts in
     let ws = c.args.pair.now.words.now in
     let parts = kept_parts k ws c.args.pair.now.fit c.args.pair.now.kept in
     let p = err_from_is_err_and c.from_residual.result c.from_residual.ensures.1 in
     let v = first_over g.D.Domain.ops (kept_pair k ws) (registers_at ws k.one.registers c.first_registers.result) c.in_err-behind_first.ensures.values (found_first k ws parts c.first_registers.result c.first_registers.ensures).0 in
-    rw p.1 (record { starts = v; few = tt })
+    rw p.1 v
 
 pub work_out_registers-requires-2 : goal.work_out_registers-requires-2
 work_out_registers-requires-2 g c =
@@ -32,8 +32,8 @@ work_out_registers-requires-2 g c =
     let e = c.in_ok-behind_first.ensures in
     record { readable = (found_second k ws parts c.first_registers.result c.first_registers.ensures c.in_ok-behind_first.behind_first e.kept.0 c.second_registers-from.result c.second_registers-from.ensures).1 }
 
-pub returns-in_err-behind_second : goal.returns-in_err-behind_second
-returns-in_err-behind_second g c =
+pub returns-in_err-behind_second-clause-starts : goal.returns-in_err-behind_second-clause-starts
+returns-in_err-behind_second-clause-starts g c =
     let k = c.args.pair.now.counts in
     let ws = c.args.pair.now.words.now in
     let parts = kept_parts k ws c.args.pair.now.fit c.args.pair.now.kept in
@@ -43,7 +43,7 @@ returns-in_err-behind_second g c =
     let p = err_from_is_err_and c.from_residual-in_err-behind_second.result c.from_residual-in_err-behind_second.ensures.1 in
     let v = second_over g.D.Domain.ops (kept_pair k ws) (registers_at ws k.one.registers rs₁) (kept_seen (forms c.work_out_registers.new.slots) 0 k.one.registers) e.values (found_first k ws parts rs₁ c.first_registers.ensures).0
     (registers_at ws k.two.registers rs₂) c.in_err-behind_second.ensures.values (found_second k ws parts rs₁ c.first_registers.ensures c.in_ok-behind_first.behind_first e.kept.0 rs₂ c.second_registers-from.ensures).0 in
-    rw p.1 (record { starts = v; few = tt })
+    rw p.1 v
 
 pub learn_facts-requires : goal.learn_facts-requires
 learn_facts-requires g c =

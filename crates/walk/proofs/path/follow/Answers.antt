@@ -9,8 +9,8 @@ use Rattle.walk.specs.Taking.{track_seen}
 use Rattle.walk.proofs.Followed.{one_step, one_over, at_end}
 use Rattle.walk.proofs.path.follow.Goals as goal
 
-pub returns-in_err-state : goal.returns-in_err-state
-returns-in_err-state g c =
+pub returns-in_err-state-clause-walks : goal.returns-in_err-state-clause-walks
+returns-in_err-state-clause-walks g c =
     let o = g.D.Domain.ops in
     let turn = get_or c.args.path.now c.loop-turn.turn-index false in
     let here = track_seen c.args.side c.loop-turn.state.number c.loop-turn.known c.loop-turn.outputs (forms c.loop-turn.slots) in
@@ -18,7 +18,7 @@ returns-in_err-state g c =
     let p = err_from_is_err_and c.from_residual.result c.from_residual.ensures.1 in
     let steps = e.steps ∙ ap (λ t. step o (λ tests. good tt) (row_at (table_machine t.words.now) c.loop-turn.state.number) turn here) c.loop-turn.invariant.1 in
     let v = one_over o c.args.side c.args.start.table.words.now c.args.path.now c.args.start.number _ _ _ c.loop-turn.turn-index c.loop-turn.state.number _ _ _ c.loop-turn.invariant.0 c.loop-turn-test.true steps in
-    rw p.1 (record { walks = v; kept = tt; table = tt })
+    rw p.1 v
 
 pub loop-turn-preserved : goal.loop-turn-preserved
 loop-turn-preserved g c =
@@ -32,10 +32,6 @@ loop-turn-preserved g c =
       e.table ∙ c.loop-turn.invariant.1,
     )
 
-pub returns : goal.returns
-returns g c =
-    record {
-      walks = at_end g.D.Domain.ops c.args.side c.args.start.table.words.now c.args.path.now c.args.start.number _ _ _ c.loop-turn.turn-index c.loop-turn.state.number _ _ _ c.loop-turn.invariant.0 c.loop-turn-test.false;
-      kept = c.loop-turn.invariant.0.kept;
-      table = c.loop-turn.invariant.1;
-    }
+pub returns-clause-walks : goal.returns-clause-walks
+returns-clause-walks g c =
+    at_end g.D.Domain.ops c.args.side c.args.start.table.words.now c.args.path.now c.args.start.number _ _ _ c.loop-turn.turn-index c.loop-turn.state.number _ _ _ c.loop-turn.invariant.0 c.loop-turn-test.false

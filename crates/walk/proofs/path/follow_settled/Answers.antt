@@ -12,8 +12,8 @@ use Rattle.walk.proofs.path.follow_settled.Goals as goal
 pub loop-index-init : goal.loop-index-init
 loop-index-init g c = (settled_start g.D.Domain.ops c.args.side c.args.start.table.words.now c.args.path.now c.args.start.number c.args.known.now c.args.outputs.now (forms c.args.slots.now), refl)
 
-pub returns-in_err-state : goal.returns-in_err-state
-returns-in_err-state g c =
+pub returns-in_err-state-clause-walks : goal.returns-in_err-state-clause-walks
+returns-in_err-state-clause-walks g c =
     let o = g.D.Domain.ops in
     let known = c.args.known.now in
     let fs = forms c.loop-index.slots in
@@ -24,7 +24,7 @@ returns-in_err-state g c =
     let lt : c.loop-index.index < length c.args.path.now = omega arith in
     let v = settled_fault o c.args.side c.args.start.table.words.now c.args.path.now c.args.start.number known _ _ c.loop-index.index c.loop-index.state.number _ _ c.loop-index.invariant.0 _ _ _ lt
     (λ tests. e.steps tests ∙ ap (λ t. only_reached (step o (must o (known_seen known.items fs 0 known.count) c.loop-index.index) (row_at (table_machine t.words.now) c.loop-index.state.number) turn (beside tests here))) c.loop-index.invariant.1) in
-    rw (p.1, p.2) (record { walks = v; kept = tt })
+    rw (p.1, p.2) v
 
 pub loop-index-preserved : goal.loop-index-preserved
 loop-index-preserved g c =
@@ -42,10 +42,7 @@ loop-index-preserved g c =
       e.table ∙ c.loop-index.invariant.1,
     )
 
-pub returns : goal.returns
-returns g c =
+pub returns-clause-walks : goal.returns-clause-walks
+returns-clause-walks g c =
     let past : length c.args.path.now ≤ c.loop-index.index = omega arith in
-    record {
-      walks = settled_end g.D.Domain.ops c.args.side c.args.start.table.words.now c.args.path.now c.args.start.number c.args.known.now _ _ c.loop-index.index c.loop-index.state.number _ _ c.loop-index.invariant.0 past;
-      kept = c.loop-index.invariant.0.kept;
-    }
+    settled_end g.D.Domain.ops c.args.side c.args.start.table.words.now c.args.path.now c.args.start.number c.args.known.now _ _ c.loop-index.index c.loop-index.state.number _ _ c.loop-index.invariant.0 past

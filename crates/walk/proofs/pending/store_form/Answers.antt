@@ -5,21 +5,15 @@ use Rattle.walk.specs.Seen.{kept_seen}
 use Rattle.walk.proofs.Waiting.{store_there, store_nowhere}
 use Rattle.walk.proofs.pending.store_form.Goals as goal
 
-pub returns-then-register-registers : goal.returns-then-register-registers
-returns-then-register-registers g c =
+pub returns-then-register-registers-clause-stored : goal.returns-then-register-registers-clause-stored
+returns-then-register-registers-clause-stored g c =
     let fs = forms c.args.slots.now in
     let long = length_slots c.args.slots.now.lens.of c.args.slots.now.row.now ∙ c.args.slots.now.count in
     let s = store_there c.args.registers fs c.args.register (get_or fs c.args.from []) long (omega arith) in
     let e = c.copy.ensures.forms in
-    record {
-      stored = ap (λ f. kept_seen f c.args.registers.first c.args.registers.count) e ∙ s.0;
-      kept = λ i h. ap (λ f. get_or f i []) e ∙ s.1 i h;
-    }
+    ap (λ f. kept_seen f c.args.registers.first c.args.registers.count) e ∙ s.0
 
-pub returns-else-register-registers : goal.returns-else-register-registers
-returns-else-register-registers g c =
+pub returns-else-register-registers-clause-stored : goal.returns-else-register-registers-clause-stored
+returns-else-register-registers-clause-stored g c =
     let fs = forms c.args.slots.now in
-    record {
-      stored = store_nowhere c.args.registers fs c.args.register (get_or fs c.args.from []) (omega arith);
-      kept = λ i h. refl;
-    }
+    store_nowhere c.args.registers fs c.args.register (get_or fs c.args.from []) (omega arith)

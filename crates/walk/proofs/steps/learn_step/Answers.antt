@@ -9,8 +9,8 @@ use Rattle.walk.specs.Taking.{track_seen}
 use Rattle.walk.proofs.Stepped.{learned_step, other_side, arrives, one_put}
 use Rattle.walk.proofs.steps.learn_step.Goals as goal
 
-pub returns-in_err-number : goal.returns-in_err-number
-returns-in_err-number g c =
+pub returns-in_err-number-clause-steps : goal.returns-in_err-number-clause-steps
+returns-in_err-number-clause-steps g c =
     let o = g.D.Domain.ops in
     let number = c.args.state.number in
     let row = row_of (ahead c.row_there-row.result) in
@@ -23,16 +23,10 @@ returns-in_err-number g c =
     let none : Result ℕ (Unit {0}) = Err tt in
     let p = err_from_is_err_and c.from_residual-in_err-number.result c.from_residual-in_err-number.ensures.1 in
     let v = learned_step o c.args.side row c.args.turn number k c.learn_put.new.known out c.take_transition.new.outputs c.in_ok-test.test fs (forms c.put_test.new.slots) (forms c.learn_put.new.slots) (forms c.take_transition.new.slots) e.tests e.kept l.known l.kept none (transition_of (ahead c.put_test.new.row)) e.goes tt tt a.acted in
-    rw p.1 (record { steps = v ∙ ap (λ x. step o (λ tests. good tt) x c.args.turn (track_seen c.args.side number k out fs)) c.row_there-row.ensures.row; table = tt; count = tt; kept = tt })
+    rw p.1 (v ∙ ap (λ x. step o (λ tests. good tt) x c.args.turn (track_seen c.args.side number k out fs)) c.row_there-row.ensures.row)
 
-pub invariant_of-result : goal.invariant_of-result
-invariant_of-result g c =
-    let row = row_of (ahead c.row_there-row.result) in
-    let left : Result ℕ (Unit {0}) = Ok c.in_ok-number.number in
-    record { there = arrives c.args.state.table.words.now row c.args.turn (transition_of (ahead c.put_test.new.row)) left c.row_there-row.ensures.targets c.in_ok-test.ensures.goes c.in_ok-number.ensures.target }
-
-pub returns : goal.returns
-returns g c =
+pub returns-clause-steps : goal.returns-clause-steps
+returns-clause-steps g c =
     let o = g.D.Domain.ops in
     let side = c.args.side in
     let number = c.args.state.number in
@@ -51,10 +45,5 @@ returns g c =
     let out' = c.take_transition.new.outputs in
     let test = c.in_ok-test.test in
     let left : Result ℕ (Unit {0}) = Ok c.in_ok-number.number in
-    record {
-      steps = learned_step o side row c.args.turn number k k' out out' test fs f₁ f₂ f₃ e.tests e.kept l.known l.kept left t e.goes a.target a.kept a.acted
-          ∙ ap (λ x. step o (λ tests. good tt) x c.args.turn (track_seen side number k out fs)) c.row_there-row.ensures.row;
-      table = refl;
-      count = one_put k k' test c.args.turn f₁ left l.count;
-      kept = other_side o side row c.args.turn number k k' out out' test fs f₁ f₂ f₃ e.tests e.kept l.known l.kept left t e.goes a.target a.kept a.acted left a.kept;
-    }
+    learned_step o side row c.args.turn number k k' out out' test fs f₁ f₂ f₃ e.tests e.kept l.known l.kept left t e.goes a.target a.kept a.acted
+          ∙ ap (λ x. step o (λ tests. good tt) x c.args.turn (track_seen side number k out fs)) c.row_there-row.ensures.row

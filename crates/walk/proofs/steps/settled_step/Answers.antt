@@ -9,8 +9,8 @@ use Rattle.walk.specs.Taking.{only_reached, beside, reached_seen}
 use Rattle.walk.proofs.Stepped.{unsettled, settled_step, arrives, after_put}
 use Rattle.walk.proofs.steps.settled_step.Goals as goal
 
-pub returns-then-not-is_put_settled : goal.returns-then-not-is_put_settled
-returns-then-not-is_put_settled g c =
+pub returns-then-not-is_put_settled-clause-steps : goal.returns-then-not-is_put_settled-clause-steps
+returns-then-not-is_put_settled-clause-steps g c =
     let o = g.D.Domain.ops in
     let side = c.args.side in
     let k = c.args.known.now in
@@ -19,10 +19,10 @@ returns-then-not-is_put_settled g c =
     let e = c.in_ok-test.ensures in
     let not : _ = c.is_put_settled.ensures in
     let v = unsettled o side (row_of (ahead c.row_there-row.result)) c.args.turn c.args.state.number c.args.index k c.args.outputs.now c.in_ok-test.test fs f₁ e.tests e.kept (search rules) in
-    record { steps = λ tests. v tests ∙ ap (λ x. only_reached (step o (must o (known_seen k.items fs 0 k.count) c.args.index) x c.args.turn (beside tests (reached_seen side c.args.state.number c.args.outputs.now fs)))) c.row_there-row.ensures.row; table = tt; kept = tt }
+    λ tests. v tests ∙ ap (λ x. only_reached (step o (must o (known_seen k.items fs 0 k.count) c.args.index) x c.args.turn (beside tests (reached_seen side c.args.state.number c.args.outputs.now fs)))) c.row_there-row.ensures.row
 
-pub returns-in_err-number : goal.returns-in_err-number
-returns-in_err-number g c =
+pub returns-in_err-number-clause-steps : goal.returns-in_err-number-clause-steps
+returns-in_err-number-clause-steps g c =
     let o = g.D.Domain.ops in
     let side = c.args.side in
     let k = c.args.known.now in
@@ -34,16 +34,10 @@ returns-in_err-number g c =
     let row = row_of (ahead c.row_there-row.result) in
     let v = settled_step o side row c.args.turn c.args.state.number c.args.index k c.args.outputs.now c.in_ok-test.test fs f₁ e.tests e.kept c.take_transition.new.outputs (forms c.take_transition.new.slots) none (transition_of (ahead c.put_test.new.row)) e.goes tt tt a.acted (search rules) in
     let p = err_from_is_err_and c.from_residual-in_err-number.result c.from_residual-in_err-number.ensures.1 in
-    rw (p.1, p.2) (record { steps = λ tests. v tests ∙ ap (λ x. only_reached (step o (must o (known_seen k.items fs 0 k.count) c.args.index) x c.args.turn (beside tests (reached_seen side c.args.state.number c.args.outputs.now fs)))) c.row_there-row.ensures.row; table = tt; kept = tt })
+    rw (p.1, p.2) (λ tests. v tests ∙ ap (λ x. only_reached (step o (must o (known_seen k.items fs 0 k.count) c.args.index) x c.args.turn (beside tests (reached_seen side c.args.state.number c.args.outputs.now fs)))) c.row_there-row.ensures.row)
 
-pub invariant_of-result : goal.invariant_of-result
-invariant_of-result g c =
-    let row = row_of (ahead c.row_there-row.result) in
-    let left : Result ℕ (Unit {0}) = Ok c.in_ok-number.number in
-    record { there = arrives c.args.state.table.words.now row c.args.turn (transition_of (ahead c.put_test.new.row)) left c.row_there-row.ensures.targets c.in_ok-test.ensures.goes c.in_ok-number.ensures.target }
-
-pub returns : goal.returns
-returns g c =
+pub returns-clause-steps : goal.returns-clause-steps
+returns-clause-steps g c =
     let o = g.D.Domain.ops in
     let side = c.args.side in
     let k = c.args.known.now in
@@ -56,8 +50,4 @@ returns g c =
     let row = row_of (ahead c.row_there-row.result) in
     let t = transition_of (ahead c.put_test.new.row) in
     let v = settled_step o side row c.args.turn c.args.state.number c.args.index k c.args.outputs.now c.in_ok-test.test fs f₁ e.tests e.kept c.take_transition.new.outputs f₃ left t e.goes a.target a.kept a.acted (search rules) in
-    record {
-      steps = λ tests. v tests ∙ ap (λ x. only_reached (step o (must o (known_seen k.items fs 0 k.count) c.args.index) x c.args.turn (beside tests (reached_seen side c.args.state.number c.args.outputs.now fs)))) c.row_there-row.ensures.row;
-      table = refl;
-      kept = after_put side fs f₁ f₃ e.kept a.kept;
-    }
+    λ tests. v tests ∙ ap (λ x. only_reached (step o (must o (known_seen k.items fs 0 k.count) c.args.index) x c.args.turn (beside tests (reached_seen side c.args.state.number c.args.outputs.now fs)))) c.row_there-row.ensures.row

@@ -8,8 +8,8 @@ use Rattle.walk.specs.Taking.{acted}
 use Rattle.walk.proofs.Held.{made, made_apart}
 use Rattle.walk.proofs.taking.take_transition.Goals as goal
 
-pub returns : goal.returns
-returns g c =
+pub returns-clause-acted : goal.returns-clause-acted
+returns-clause-acted g c =
     let o = g.D.Domain.ops in
     let e = c.in_ok-state.ensures in
     let side = c.args.side in
@@ -20,8 +20,4 @@ returns g c =
     let actions = (transition_of (ahead c.args.row.now)).actions in
     let fs = forms c.hold_actions.new.slots in
     let fs' = forms c.commit.new.slots in
-    record {
-      acted = ap Some (made g.D.Domain.ops c.args.side base fs fs' c.hold_actions.new.pending c.hold_actions.new.outputs e.kept k.kept k.stored) ∙ e.held ∙ ap (λ n. acted o form actions (record { registers = stored_seen c.empty-pending.result.items base n registers; outputs = outputs_seen c.args.outputs.now.items base side.outputs c.args.outputs.now.count })) c.empty-pending.ensures;
-      target = e.target;
-      kept = made_apart g.D.Domain.ops c.args.side base fs fs' c.hold_actions.new.pending c.hold_actions.new.outputs e.kept k.kept;
-    }
+    ap Some (made g.D.Domain.ops c.args.side base fs fs' c.hold_actions.new.pending c.hold_actions.new.outputs e.kept k.kept k.stored) ∙ e.held ∙ ap (λ n. acted o form actions (record { registers = stored_seen c.empty-pending.result.items base n registers; outputs = outputs_seen c.args.outputs.now.items base side.outputs c.args.outputs.now.count })) c.empty-pending.ensures

@@ -10,8 +10,8 @@ use Rattle.walk.specs.Walk.{tested}
 use Rattle.walk.proofs.Tested.{second_over, both, both_kept}
 use Rattle.walk.proofs.testing.put_test.Goals as goal
 
-pub returns-in_err-work_out-2 : goal.returns-in_err-work_out-2
-returns-in_err-work_out-2 g c =
+pub returns-in_err-work_out-2-clause-tests : goal.returns-in_err-work_out-2-clause-tests
+returns-in_err-work_out-2-clause-tests g c =
     let o = g.D.Domain.ops in
     let t = c.in-Some-Test in
     let is : ahead c.args.row.now ≡ tests t.test t.left.now t.right.now ∷ ahead c.next_part.new.self = search rules in
@@ -20,10 +20,10 @@ returns-in_err-work_out-2 g c =
     let f = c.in_err-work_out-2.ensures in
     let v = second_over o c.args.registers t.test (map item_of t.left.now) (map item_of t.right.now) (transition_of (ahead c.next_part.new.self)) (transition_of (behind (ahead c.next_part.new.self))) c.args.turn fs (forms c.work_out.new.slots) e.kept e.value f.value in
     let p = err_from_is_err_and c.from_residual-in_err-work_out-2.result c.from_residual-in_err-work_out-2.ensures.1 in
-    rw p.1 (record { tests = v ∙ ap (λ a. tested o (row_of a) c.args.turn (kept_seen fs c.args.registers.first c.args.registers.count)) (sym is); goes = tt; kept = tt })
+    rw p.1 (v ∙ ap (λ a. tested o (row_of a) c.args.turn (kept_seen fs c.args.registers.first c.args.registers.count)) (sym is))
 
-pub returns : goal.returns
-returns g c =
+pub returns-clause-tests : goal.returns-clause-tests
+returns-clause-tests g c =
     let o = g.D.Domain.ops in
     let t = c.in-Some-Test in
     let is : ahead c.args.row.now ≡ tests t.test t.left.now t.right.now ∷ ahead c.next_part.new.self = search rules in
@@ -36,8 +36,4 @@ returns g c =
     let r = map item_of t.right.now in
     let y = transition_of (ahead c.next_part.new.self) in
     let n = transition_of (behind (ahead c.next_part.new.self)) in
-    record {
-      tests = both o c.args.registers t.test l r y n c.args.turn fs f₁ e.kept e.value f₂ f.kept f.value ∙ ap (λ a. tested o (row_of a) c.args.turn (kept_seen fs c.args.registers.first c.args.registers.count)) (sym is);
-      goes = c.choose.ensures ∙ ap (λ a. chosen (row_of a) c.args.turn) (sym is);
-      kept = both_kept o c.args.registers t.test l r y n c.args.turn fs f₁ e.kept e.value f₂ f.kept;
-    }
+    both o c.args.registers t.test l r y n c.args.turn fs f₁ e.kept e.value f₂ f.kept f.value ∙ ap (λ a. tested o (row_of a) c.args.turn (kept_seen fs c.args.registers.first c.args.registers.count)) (sym is)

@@ -7,33 +7,15 @@ use Rattle.workspace.specs.Evaluation.{symbol_forms}
 use Rattle.workspace.proofs.Applied.{on_leaf, on_last, on_both}
 use Rattle.workspace.proofs.evaluator.apply.Goals as goal
 
-pub sum-requires : goal.sum-requires
-sum-requires g c =
-    let t : takes c.args.item ≡ 2 = ap takes c.in-Sum.is in
-    let h = c.requires.stands in
-    record { slots = (omega arith, (omega arith, omega arith)) }
-
 pub returns-in-Sum : goal.returns-in-Sum
 returns-in-Sum g c =
     let p = on_both g.D.Domain.ops c.args.leaves c.args.slots.now c.args.depth c.args.item c.requires.stands _ c.in-Sum.is c.sum.result (forms c.sum.new.self) _ refl (λ s. refl) c.sum.ensures.forms in
     record { kept = p.1; stack = p.0 }
 
-pub difference-requires : goal.difference-requires
-difference-requires g c =
-    let t : takes c.args.item ≡ 2 = ap takes c.in-Difference.is in
-    let h = c.requires.stands in
-    record { slots = (omega arith, (omega arith, omega arith)) }
-
 pub returns-in-Difference : goal.returns-in-Difference
 returns-in-Difference g c =
     let p = on_both g.D.Domain.ops c.args.leaves c.args.slots.now c.args.depth c.args.item c.requires.stands _ c.in-Difference.is c.difference.result (forms c.difference.new.self) _ refl (λ s. refl) c.difference.ensures.forms in
     record { kept = p.1; stack = p.0 }
-
-pub product-requires : goal.product-requires
-product-requires g c =
-    let t : takes c.args.item ≡ 2 = ap takes c.in-Product.is in
-    let h = c.requires.stands in
-    record { slots = (omega arith, (omega arith, omega arith)) }
 
 pub returns-in-Product : goal.returns-in-Product
 returns-in-Product g c =

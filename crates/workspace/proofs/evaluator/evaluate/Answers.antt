@@ -9,15 +9,6 @@ use Rattle.workspace.proofs.evaluator.evaluate.Goals as goal
 pub loop-w-init : goal.loop-w-init
 loop-w-init g c = started _ _ _ c.args.expression.is
 
-pub apply-requires : goal.apply-requires
-apply-requires g c = record { stands = stands _ _ _ _ _ _ c.loop-w.invariant c.loop-w-test.true _ c.from-item.ensures }
-
-pub overflow_sub-depth : goal.overflow_sub-depth
-overflow_sub-depth g c = let h = stands _ _ _ _ _ _ c.loop-w.invariant c.loop-w-test.true _ c.from-item.ensures in omega (arith, h.values, c.taken.ensures)
-
-pub overflow_add-depth : goal.overflow_add-depth
-overflow_add-depth g c = let h = stands _ _ _ _ _ _ c.loop-w.invariant c.loop-w-test.true _ c.from-item.ensures in let d : c.loop-w.depth - c.taken.result + 1 ≤ 9 = omega (arith, h.deep) in search rules
-
 pub loop-w-preserved : goal.loop-w-preserved
 loop-w-preserved g c =
     let o = g.D.Domain.ops in
@@ -28,8 +19,8 @@ loop-w-preserved g c =
     let w = went _ _ _ _ _ _ inv c.loop-w-test.true c.from-item.result (forms c.apply.new.slots) c.from-item.ensures e.kept s in
     rw c.taken.ensures w
 
-pub returns-in_err-apply : goal.returns-in_err-apply
-returns-in_err-apply g c =
+pub returns-in_err-apply-clause-value : goal.returns-in_err-apply-clause-value
+returns-in_err-apply-clause-value g c =
     let o = g.D.Domain.ops in
     let fs = forms c.loop-w.slots in
     let inv = c.loop-w.invariant in
@@ -37,11 +28,8 @@ returns-in_err-apply g c =
     let s = e.stack ∙ ap (λ f. step (reading o c.args.leaves f) c.from-item.result (stack c.loop-w.depth fs)) (named_kept _ _ _ _ _ _ inv) in
     let v = failed _ _ _ _ _ _ inv c.loop-w-test.true c.from-item.result c.from-item.ensures s in
     let p = err_from_is_err_and c.from_residual.result c.from_residual.ensures.1 in
-    rw p.1 (record { kept = refl; value = v })
+    rw p.1 v
 
-pub returns : goal.returns
-returns g c =
-    record {
-      kept = ap Some c.loop-w.invariant.kept;
-      value = ended _ _ _ _ _ _ c.loop-w.invariant c.loop-w-test.false;
-    }
+pub returns-clause-value : goal.returns-clause-value
+returns-clause-value g c =
+    ended _ _ _ _ _ _ c.loop-w.invariant c.loop-w-test.false

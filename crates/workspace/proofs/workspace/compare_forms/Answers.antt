@@ -11,19 +11,8 @@ use Rattle.workspace.proofs.Evaluating.{accepted, refused}
 use Rattle.workspace.proofs.Comparing.{compared_first, compared_second, compared_both, first_kept, left_of, right_of}
 use Rattle.workspace.proofs.workspace.compare_forms.Goals as goal
 
-pub returns-in_err-evaluate_into : goal.returns-in_err-evaluate_into
-returns-in_err-evaluate_into g c =
-    let o = g.D.Domain.ops in
-    let f0 = forms c.args.slots.now in
-    let alg = reading o c.args.leaves (named f0) in
-    let m = meaning alg (map item_of c.args.left.words.now) in
-    let n = meaning alg (map item_of c.args.right.words.now) in
-    let b = refused m (take 154 f0) 152 c.in_err-evaluate_into.ensures.forms in
-    let p = err_from_is_err_and c.from_residual.result c.from_residual.ensures.1 in
-    rw p.1 (record { kept = refl; answer = sym (compared_first o m n b) })
-
-pub returns-in_err-evaluate_into-2 : goal.returns-in_err-evaluate_into-2
-returns-in_err-evaluate_into-2 g c =
+pub returns-in_err-evaluate_into-2-clause-answer : goal.returns-in_err-evaluate_into-2-clause-answer
+returns-in_err-evaluate_into-2-clause-answer g c =
     let o = g.D.Domain.ops in
     let l = c.args.leaves in
     let f0 = forms c.args.slots.now in
@@ -36,7 +25,7 @@ returns-in_err-evaluate_into-2 g c =
     let e2 = c.in_err-evaluate_into-2.ensures in
     let b = refused n (take 154 f1) 153 (e2.forms ∙ ap (λ f. give 153 (meaning (reading o l f) (map item_of c.args.right.words.now)) (take 154 f1)) k) in
     let p = err_from_is_err_and c.from_residual-in_err-evaluate_into-2.result c.from_residual-in_err-evaluate_into-2.ensures.1 in
-    rw p.1 (record { kept = refl; answer = sym (compared_second o m n b) })
+    rw p.1 (sym (compared_second o m n b))
 
 pub returns : goal.returns
 returns g c =

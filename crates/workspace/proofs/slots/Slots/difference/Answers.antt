@@ -11,8 +11,8 @@ use Rattle.workspace.proofs.Steps.{form_at, place_within, settled, short, length
 use Rattle.workspace.proofs.Laws.{ready}
 use Rattle.workspace.proofs.slots.Slots.difference.Goals as goal
 
-pub merge-s-requires : goal.merge-s-requires
-merge-s-requires g c =
+pub merge-s-requires-clause-room : goal.merge-s-requires-clause-room
+merge-s-requires-clause-room g c =
     let o = g.D.Domain.ops in
     let ns = c.args.self.now.lens.of in
     let xs = c.args.self.now.row.now in
@@ -27,41 +27,7 @@ merge-s-requires g c =
     let r = (ready c.args.self.now).room in
     let e1 = ap (λ s. s.from) c.span-p.ensures in
     let e2 = ap (λ s. s.to) c.span-p.ensures in
-    record {
-      a = record { ordered = omega arith; below = omega arith };
-      b = record { ordered = omega arith; below = omega arith };
-      room = omega arith;
-    }
-
-pub settle-requires : goal.settle-requires
-settle-requires g c =
-    let o = g.D.Domain.ops in
-    let ns = c.args.self.now.lens.of in
-    let xs = c.args.self.now.row.now in
-    let ys = c.negate-n.new.row in
-    let zs = c.merge-s.new.row in
-    let p = c.negate-n.ensures in
-    let q = c.merge-s.ensures in
-    let t = p.to in
-    let k = kept_then 2592 c.negate-n.result.to xs ys zs (omega arith) p.kept q.kept in
-    let n = length_sum o (part c.span-p.result ys) (part c.negate-n.result ys) in
-    let m = length_negation o (part c.span-q.result xs) in
-    let a = length_part c.span-p.result ys in
-    let b = short ns xs c.args.b c.span-q.result (ready c.args.self.now) c.span-q.ensures in
-    let d = length_part c.negate-n.result ys in
-    let few = (ready c.args.self.now).few c.args.a in
-    let e1 = ap (λ s. s.from) c.span-p.ensures in
-    let e2 = ap (λ s. s.to) c.span-p.ensures in
-    let f = p.from in
-    let qf = q.from in
-    let qt = q.to in
-    let r = (ready c.args.self.now).room in
-    let l = k.long in
-    record {
-      slot = omega arith;
-      s = record { ordered = omega arith; below = omega arith };
-      behind = omega arith;
-    }
+    omega arith
 
 pub returns : goal.returns
 returns g c =

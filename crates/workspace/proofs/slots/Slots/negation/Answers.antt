@@ -6,8 +6,8 @@ use Rattle.workspace.proofs.Steps.{form_at, forms_kept, short, made_within, leng
 use Rattle.workspace.proofs.Laws.{ready}
 use Rattle.workspace.proofs.slots.Slots.negation.Goals as goal
 
-pub place-requires : goal.place-requires
-place-requires g c =
+pub place-requires-clause-few : goal.place-requires-clause-few
+place-requires-clause-few g c =
     let o = g.D.Domain.ops in
     let ns = c.args.self.now.lens.of in
     let xs = c.args.self.now.row.now in
@@ -16,12 +16,7 @@ place-requires g c =
     let a = short ns xs c.args.a c.span-p.result (ready c.args.self.now) c.span-p.ensures in
     let f = p.from in
     let t = p.to in
-    record {
-      slot = omega arith;
-      s = made_within ns xs _ _ _ (ready c.args.self.now) p (omega arith);
-      few = omega arith;
-      apart = inl (omega arith);
-    }
+    omega arith
 
 pub returns : goal.returns
 returns g c =

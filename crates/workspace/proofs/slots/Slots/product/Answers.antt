@@ -23,22 +23,6 @@ returns-then-degree_of-gt-HIGHEST g c =
     let k = k_is in
     record { forms = sym (ap (λ r. give c.args.to r F) (product_over o P Q (omega arith))) }
 
-pub settle-requires : goal.settle-requires
-settle-requires g c =
-    let o = g.D.Domain.ops in
-    let ns = c.args.self.now.lens.of in
-    let xs = c.args.self.now.row.now in
-    let p = c.multiply-s.ensures in
-    let a = short ns xs c.args.a c.span-p.result (ready c.args.self.now) c.span-p.ensures in
-    let b = short ns xs c.args.b c.span-q.result (ready c.args.self.now) c.span-q.ensures in
-    let n = length_product o (part c.span-p.result xs) (part c.span-q.result xs) b in
-    let f = p.from in
-    record {
-      slot = omega arith;
-      s = made_within ns xs _ _ _ (ready c.args.self.now) p (omega arith);
-      behind = omega arith;
-    }
-
 pub returns : goal.returns
 returns g c =
     let o = g.D.Domain.ops in

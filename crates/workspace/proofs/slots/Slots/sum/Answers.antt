@@ -8,22 +8,6 @@ use Rattle.workspace.proofs.Steps.{form_at, settled, short, made_within}
 use Rattle.workspace.proofs.Laws.{ready}
 use Rattle.workspace.proofs.slots.Slots.sum.Goals as goal
 
-pub settle-requires : goal.settle-requires
-settle-requires g c =
-    let o = g.D.Domain.ops in
-    let ns = c.args.self.now.lens.of in
-    let xs = c.args.self.now.row.now in
-    let p = c.merge-s.ensures in
-    let n = length_sum o (part c.span-p.result xs) (part c.span-q.result xs) in
-    let a = short ns xs c.args.a c.span-p.result (ready c.args.self.now) c.span-p.ensures in
-    let b = short ns xs c.args.b c.span-q.result (ready c.args.self.now) c.span-q.ensures in
-    let f = p.from in
-    record {
-      slot = omega arith;
-      s = made_within ns xs _ _ _ (ready c.args.self.now) p (omega arith);
-      behind = omega arith;
-    }
-
 pub returns : goal.returns
 returns g c =
     let o = g.D.Domain.ops in
