@@ -53,6 +53,7 @@ pub fn multiply<D: Domain>(row: &mut [Term<D>], a: Span, b: Span, at: usize) -> 
     ensures { Put at row.old (multiplied D.ops (part a row.old) (part b row.old)) row.new result }
 {
     let mut acc = Span { from: at, to: at };
+    // (By places: the row is written while its first part is read.)
     for i in (a.from..a.to).rev() {
         let x = row[i];
         let s = scale(row, x, b, acc.to);

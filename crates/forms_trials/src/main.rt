@@ -1,4 +1,5 @@
 // Runs worked examples of normal forms and prints a line for each, which is compared with the stored output.
+// (The host's handle is lent to each call.)
 #![tactic(auto)]
 
 use domain::Domain;

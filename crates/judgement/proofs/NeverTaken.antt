@@ -1,5 +1,5 @@
 -- A path followed up to its last step, which is at a test whose other answer is settled.
-use Rattle.std.proofs.Common.{◌≡◌, ℕ, suc, ◌-◌, ◌<◌, Bool, true, false, not, ◌&&◌, List, [], ◌∷◌, length, get_or, take, Some, sym, refl, ap, ◌∙◌, arith}
+use Rattle.std.proofs.Common.{◌≡◌, ℕ, suc, Bool, true, false, not, ◌&&◌, List, [], ◌∷◌, ◌++◌, length, Some, sym, refl, ap, ◌∙◌, arith}
 use Rattle.domain.specs.Ring.{Ops}
 use Rattle.machine.specs.Answer.{Answer, good, refused, ◌then◌, check}
 use Rattle.machine.specs.Machine.{Machine, Row, straight, branch, row_at}
@@ -12,6 +12,10 @@ use Rattle.walk.proofs.Learned.{known_kept}
 use Rattle.walk.specs.Settled.{Known, settled, all}
 use Rattle.walk.specs.Walk.{Track, fits, tested, step, walk, learn}
 use Rattle.correspondence.specs.Judgement.{other_settled, never_taken}
+
+then_more : {X Y Z : Type 0} (a : Answer X) (f : X → Answer Z) (g : X → Answer Y) (h : Y → Answer Z) → ((v : X) → f v ≡ (g v then h)) → (a then f) ≡ ((a then g) then h)
+then_more (good v) f g h e = e v
+then_more (refused n m p) f g h e = refl
 
 module _ {D : Type 0} (o : Ops D) where
   -- The step is at a test.
@@ -31,15 +35,8 @@ module _ {D : Type 0} (o : Ops D) where
   no_step m (turn ∷ path) t e = absurd (omega arith)
 
   -- A path of one step or more: all but the last are followed.
-  pub up_to_last : (m : Machine) (i : ℕ) (path : List Bool) (t : Track D) → 0 < length path → never_taken o m path t ≡ (walk o (learn o) m i (take (length path - 1) path) t then λ u. other_settled o (row_at m u.state) (get_or path (length path - 1) false) u)
+  pub up_to_last : (m : Machine) (i : ℕ) (front : List Bool) (last : Bool) (t : Track D) → never_taken o m (front ++ (last ∷ [])) t ≡ (walk o (learn o) m i front t then λ u. other_settled o (row_at m u.state) last u)
   unfolding never_taken walk
-  up_to_last m i [] t h = absurd (omega arith)
-  up_to_last m i (turn ∷ []) t h = refl
-  up_to_last m i (turn ∷ (u ∷ path)) t h =
-      let e : length (turn ∷ (u ∷ path)) - 1 ≡ suc (length (u ∷ path) - 1) = omega arith in
-      rest (step o (learn o 0) (row_at m t.state) turn t) (λ v. up_to_last m (suc i) (u ∷ path) v (omega arith))
-      ∙ ap (λ n. walk o (learn o) m i (take n (turn ∷ (u ∷ path))) t then λ v. other_settled o (row_at m v.state) (get_or (turn ∷ (u ∷ path)) n false) v) (sym e)
-    where
-      rest : (a : Answer (Track D)) → ((v : Track D) → never_taken o m (u ∷ path) v ≡ (walk o (learn o) m (suc i) (take (length (u ∷ path) - 1) (u ∷ path)) v then λ w. other_settled o (row_at m w.state) (get_or (u ∷ path) (length (u ∷ path) - 1) false) w)) → (a then λ v. never_taken o m (u ∷ path) v) ≡ ((a then λ v. walk o (learn o) m (suc i) (take (length (u ∷ path) - 1) (u ∷ path)) v) then λ w. other_settled o (row_at m w.state) (get_or (u ∷ path) (length (u ∷ path) - 1) false) w)
-      rest (good v) h = h v
-      rest (refused n m p) h = refl
+  up_to_last m i [] last t = refl
+  up_to_last m i (turn ∷ []) last t = then_more (step o (learn o 0) (row_at m t.state) turn t) _ _ _ (λ v. up_to_last m (suc i) [] last v)
+  up_to_last m i (turn ∷ (next ∷ front)) last t = then_more (step o (learn o 0) (row_at m t.state) turn t) _ _ _ (λ v. up_to_last m (suc i) (next ∷ front) last v)

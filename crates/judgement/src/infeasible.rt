@@ -1,4 +1,5 @@
 // Paths that the first machine never takes.
+// Slots, known tests and outputs are lent one by one: each has an owner of its own.
 ghost use Rattle.std.specs.Prelude.{◌≡◌, ◌+◌, ◌≤◌, length};
 ghost use Rattle.machine.specs.Machine.{row_at};
 ghost use Rattle.workspace.specs.Views.{forms};
@@ -53,11 +54,9 @@ pub fn check_infeasible<D: Domain>(
     requires { known.old.count + length path.now ≤ 24 }
     ensures { told_rule result ≡ never_taken D.ops (table_machine start.entry.table.words.now) path.now (track_seen side start.entry.number known.old outputs.old (forms slots.old)) }
 {
-    if path.is_empty() {
+    let Some((last, front)) = path.split_last() else {
         return Err(RuleFault::NotInfeasible);
-    }
-    let last = path.len() - 1;
-    let (front, _) = path.split_at(last);
+    };
     let state = follow(slots, side, start, front, known, outputs)?;
-    check_other(slots, side, state, path[last], known, outputs)
+    check_other(slots, side, state, *last, known, outputs)
 }

@@ -4,18 +4,15 @@ ghost use Rattle.machine.specs.Which.{which_number};
 
 #[derive(Clone, Copy, PartialEq, Eq)]
 pub enum Which {
-    First,
-    Second,
+    First = 1,
+    Second = 2,
 }
 
 impl Which {
-    // Its number, as it is told.
+    // Its number, as it is told; everywhere else it is a `Which`.
     pub fn number(self) -> u32
         ensures { result ≡ which_number self }
     {
-        match self {
-            Which::First => 1,
-            Which::Second => 2,
-        }
+        self as u32
     }
 }

@@ -1,4 +1,5 @@
 // Tables judged at each limit and one past it, and the rows of one read back; what is printed is held to the file stdout.
+// (The host's handle is lent to each call.)
 #![tactic(auto)]
 
 mod cases;

@@ -81,11 +81,11 @@ fn is_path(n: u32) -> bool
 fn path_at(words: &[u32], which: Kind, place: usize) -> Result<Path, ClaimFault>
     ensures { path_told result ≡ path_word (kind_number which) words.now place }
 {
-    if place >= words.len() {
+    let Some(word) = words.get(place) else {
         return Err(ClaimFault::Malformed(place));
-    }
-    let number = number_of(words[place]);
-    if !which.is_of(words[place]) || !is_path(number) {
+    };
+    let number = number_of(*word);
+    if !which.is_of(*word) || !is_path(number) {
         return Err(ClaimFault::Malformed(place));
     }
     Ok(Path {

@@ -1,4 +1,5 @@
 // Going through the words of a pair or claim that was read, expression by expression and fact by fact.
+// The words stay and the place goes on, so they are handed on apart.
 ghost use Rattle.std.specs.Prelude.{◌≡◌, ◌≤◌, drop};
 ghost use Rattle.proposal.specs.Cursors.{next_end, CutsStored, fact_places, CutsFact};
 

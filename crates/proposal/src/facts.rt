@@ -1,4 +1,5 @@
 // Facts of a pair: two expressions and a test each.
+// The words stay and the place goes on, so they are handed on apart.
 ghost use Rattle.std.specs.Prelude.{◌≡◌};
 ghost use Rattle.proposal.specs.Reading.{read_fact, read_facts};
 ghost use Rattle.proposal.specs.Places.{told_as, behind};

@@ -6,7 +6,7 @@ use machine::refusal::Refusal;
 use machine::words::WordFault;
 
 // A malformed pair, with the place of the word, or a state that is reset or missing.
-// Two types and not one: each reader names only the faults that it has, and no pair can be refused as a claim.
+// Its number is the printed figure. Two types and not one: each reader names only the faults that it has, and no pair can be refused as a claim.
 #[derive(Clone, Copy)]
 pub enum PairFault {
     Malformed(usize),

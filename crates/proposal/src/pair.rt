@@ -84,11 +84,11 @@ fn mask_at(words: &[u32], place: usize, registers: u32, symbols: u32) -> Result<
     ensures reads { pair_told result ≡ mask_word words.now registers symbols place }
     ensures within { IfOk result (λ mask. mask < 2 ^ registers) }
 {
-    if place >= words.len() {
+    let Some(word) = words.get(place) else {
         return Err(PairFault::Malformed(place));
-    }
-    let mask = number_of(words[place]);
-    if !Kind::Mask.is_of(words[place]) || !mask_fits(mask, registers, symbols) {
+    };
+    let mask = number_of(*word);
+    if !Kind::Mask.is_of(*word) || !mask_fits(mask, registers, symbols) {
         return Err(PairFault::Malformed(place));
     }
     Ok(mask)

@@ -1,4 +1,5 @@
 // Expressions of a proposal, each ended by a store of the number that is due.
+// The words stay and the place goes on, so they are handed on apart.
 ghost use Rattle.std.specs.Prelude.{◌≡◌, ℕ, ◌^◌, ◌<◌, ◌≤◌, length, IfOk};
 ghost use Rattle.proposal.specs.Reading.{stored, all_stored, bits, due, count_from};
 ghost use Rattle.proposal.specs.Places.{told_as, behind};

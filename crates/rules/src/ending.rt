@@ -1,4 +1,5 @@
 // The end pair of a claim: with the substitution, its registers are those reached, and its facts are settled.
+// Slots, known tests and outputs are lent one by one: each has an owner of its own.
 ghost use Rattle.std.specs.Prelude.{◌≡◌, OnOk};
 ghost use Rattle.workspace.specs.Views.{forms};
 ghost use Rattle.workspace.specs.Layout.{left_at};

@@ -137,8 +137,3 @@ told_order which (Err e) = refused 12 which e.step
 
 abbrev pub InOrder : {U : Type 0} → Machine → (state : ℕ) → List Bool → Result U ImpossibleStep → Type 0
 InOrder m state path r = (which : ℕ) → told_order which r ≡ in_order which m 0 state path
-
--- What a yes says.
-abbrev pub When : Bool → Type 0 → Type 0
-When true P = P
-When false P = Unit {0}

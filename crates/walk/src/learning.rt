@@ -1,4 +1,5 @@
 // What becomes of a test that was put: it becomes known, or its answer must be settled.
+// Slots, known tests and outputs are lent one by one: each has an owner of its own.
 ghost use Rattle.std.specs.Prelude.{◌≡◌, ◌+◌, ◌<◌, [], ◌∷◌, ◌++◌, length};
 ghost use Rattle.workspace.specs.Views.{forms};
 ghost use Rattle.walk.specs.Settled.{settled, all};

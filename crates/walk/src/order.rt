@@ -3,14 +3,13 @@ ghost use Rattle.std.specs.Prelude.{◌≡◌, ◌&&◌, IfSome, ◌==◌, nat_l
 ghost use Rattle.machine.specs.Machine.{row_at};
 ghost use Rattle.machine.specs.Reading.{row_of};
 ghost use Rattle.machine.specs.Views.{ahead};
-ghost use Rattle.machine.specs.Tables.{IsTable, There, table_machine};
-ghost use Rattle.walk.specs.Taking.{numbered, allowed_target, InOrder, When};
+ghost use Rattle.machine.specs.Tables.{table_machine};
+ghost use Rattle.walk.specs.Taking.{numbered, allowed_target, InOrder};
 
 use crate::steps::row_there;
 use crate::testing::choose;
 use machine::accepted::State;
 use machine::row::Row;
-use machine::table::read_table;
 use machine::view::Part;
 
 // The state that a turn leads to from a row, if the row has that turn.
@@ -39,16 +38,6 @@ pub fn step_target(state: State<'_>, turn: bool) -> Option<State<'_>>
         table: state.table,
         number,
     })
-}
-
-// Whether words are a table with this state.
-pub fn is_there(words: &[u32], state: u32) -> bool
-    ensures { When result (IsTable words.now × There words.now state) }
-{
-    match read_table(words) {
-        Ok(head) => state < head.states,
-        Err(_) => false,
-    }
 }
 
 // The first step of a path that is impossible.

@@ -1,4 +1,5 @@
 // Whether the answer of the test at hand is settled; its two sides are kept in slots LEFT and RIGHT.
+// Slots, known tests and outputs are lent one by one: each has an owner of its own.
 ghost use Rattle.std.specs.Prelude.{◌≡◌, ◌<◌, ◌||◌, [], slice_index_or};
 ghost use Rattle.std.specs.Bool.{beq};
 ghost use Rattle.expression.specs.Values.{answer};

@@ -1,4 +1,5 @@
 // One step of a path.
+// Slots, known tests and outputs are lent one by one: each has an owner of its own.
 ghost use Rattle.std.specs.Prelude.{◌≡◌, ◌+◌, ◌<◌, ◌≤◌, IfOk, OnOk};
 ghost use Rattle.machine.specs.Answer.{good};
 ghost use Rattle.machine.specs.Machine.{row_at};

@@ -1,4 +1,5 @@
 // A transition taken: its expressions are read first, and then its stores are made together.
+// Slots, known tests and outputs are lent one by one: each has an owner of its own.
 ghost use Rattle.std.specs.Prelude.{◌≡◌, IfOk, OnOk};
 ghost use Rattle.machine.specs.Reading.{transition_of};
 ghost use Rattle.machine.specs.Views.{ahead};

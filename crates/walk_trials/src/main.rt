@@ -1,4 +1,5 @@
 // The loop counter walked along each of its paths, and its second table beside it; the printed lines are compared with the stored output.
+// (The host's handle is lent to each call.)
 #![tactic(auto)]
 
 ghost use Rattle.std.specs.Prelude.{◌+◌, ◌<◌, ◌≤◌};

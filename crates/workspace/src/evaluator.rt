@@ -1,4 +1,5 @@
 // Expressions worked out to forms, on a stack of slots.
+// Slots, leaves and the expression are handed on one by one: what leaves stand for changes from call to call.
 ghost use Rattle.std.specs.Prelude.{◌≡◌, ◌+◌, ◌-◌, ◌<◌, [], slice_index_or};
 ghost use Rattle.expression.specs.Words.{takes};
 ghost use Rattle.expression.specs.Expressions.{items};

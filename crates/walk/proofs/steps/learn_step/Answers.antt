@@ -46,4 +46,4 @@ returns-clause-steps g c =
     let test = c.in_ok-test.test in
     let left : Result ℕ (Unit {0}) = Ok c.in_ok-number.number in
     learned_step o side row c.args.turn number k k' out out' test fs f₁ f₂ f₃ e.tests e.kept l.known l.kept left t e.goes a.target a.kept a.acted
-          ∙ ap (λ x. step o (λ tests. good tt) x c.args.turn (track_seen side number k out fs)) c.row_there-row.ensures.row
+    ∙ ap (λ x. step o (λ tests. good tt) x c.args.turn (track_seen side number k out fs)) c.row_there-row.ensures.row
