@@ -1,5 +1,5 @@
 -- A transition taken in the slots.
-use Rattle.std.specs.Prelude.{◌≡◌, ℕ, ◌+◌, ◌<◌, ◌≤◌, Bool, true, false, cond, ◌⊎◌, List, [], ◌∷◌, length, Some, None, Ok, Err, Option, Result, slice_index_or}
+use Rattle.std.specs.Prelude.{◌≡◌, ℕ, ◌+◌, ◌<◌, ◌≤◌, Bool, true, cond, ◌⊎◌, List, [], ◌∷◌, length, Some, None, Ok, Err, Option, Result, slice_index_or}
 use Rattle.domain.specs.Ring.{Ops}
 use Rattle.expression.specs.declared.item.Item.{Item}
 use Rattle.expression.specs.declared.test.Test.{Test}

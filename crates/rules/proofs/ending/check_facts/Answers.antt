@@ -1,8 +1,7 @@
-use Rattle.std.proofs.Common.{◌<◌, length, sym, subst, rules}
 use Rattle.std.proofs.lemmas.Result.{err_from_is_err_and}
 use Rattle.workspace.specs.Views.{forms}
 use Rattle.rules.proofs.FactsKnown.{facts_more}
-use Rattle.rules.proofs.FactsSettled.{ask_start, ask_over, ask_unsettled, ask_more, ask_end}
+use Rattle.rules.proofs.FactsSettled.{ask_over, ask_unsettled, ask_more, ask_end}
 use Rattle.rules.proofs.ending.check_facts.Goals as goal
 
 pub work_out_fact-requires : goal.work_out_fact-requires

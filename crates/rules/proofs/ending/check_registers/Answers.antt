@@ -1,9 +1,7 @@
-use Rattle.std.proofs.Common.{rules}
 use Rattle.std.proofs.lemmas.Result.{err_from_is_err_and}
 use Rattle.workspace.specs.Views.{forms}
 use Rattle.machine.specs.Which.{which_number}
-use Rattle.rules.proofs.Filling.{readable_more}
-use Rattle.rules.proofs.Comparing.{compare_start, compare_over, compare_unequal, compare_more, compare_end}
+use Rattle.rules.proofs.Comparing.{compare_over, compare_unequal, compare_more, compare_end}
 use Rattle.rules.proofs.ending.check_registers.Goals as goal
 
 pub returns-in_err-registers-clause-same : goal.returns-in_err-registers-clause-same

@@ -1,7 +1,6 @@
-use Rattle.std.proofs.Common.{◌<◌, length, sym, subst, arith, rules}
 use Rattle.std.proofs.lemmas.Result.{err_from_is_err_and}
 use Rattle.workspace.specs.Views.{forms}
-use Rattle.rules.proofs.FactsKnown.{facts_more, note_start, note_more, note_over, note_end}
+use Rattle.rules.proofs.FactsKnown.{facts_more, note_more, note_over}
 use Rattle.rules.proofs.facts.learn_facts.Goals as goal
 
 pub work_out_fact-requires : goal.work_out_fact-requires

@@ -1,7 +1,7 @@
 use Rattle.std.proofs.lemmas.Result.{err_from_is_err_and}
 use Rattle.workspace.specs.Views.{forms}
 use Rattle.rules.specs.Expressions.{fact_cut}
-use Rattle.rules.proofs.FactSides.{second_over, both, both_kept}
+use Rattle.rules.proofs.FactSides.{second_over, both}
 use Rattle.rules.proofs.facts.work_out_fact.Goals as goal
 
 pub returns-in_err-work_out-2-clause-value : goal.returns-in_err-work_out-2-clause-value

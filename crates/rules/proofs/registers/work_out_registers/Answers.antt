@@ -1,7 +1,5 @@
-use Rattle.std.proofs.Common.{arith}
-use Rattle.std.proofs.lemmas.Result.{err_from_is_err_and}
 use Rattle.workspace.specs.Views.{forms}
-use Rattle.rules.proofs.Filling.{readable_more, fill_start, fill_more, fill_over, fill_end}
+use Rattle.rules.proofs.Filling.{fill_more}
 use Rattle.rules.proofs.registers.work_out_registers.Goals as goal
 
 pub loop-i-preserved : goal.loop-i-preserved

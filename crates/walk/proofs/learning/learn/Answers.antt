@@ -1,7 +1,7 @@
 use Rattle.std.proofs.Common.{◌∙◌}
 use Rattle.workspace.specs.Views.{forms}
 use Rattle.workspace.proofs.Laws.{length_slots}
-use Rattle.walk.proofs.Learned.{learned, learned_kept}
+use Rattle.walk.proofs.Learned.{learned}
 use Rattle.walk.proofs.learning.learn.Goals as goal
 
 pub returns-clause-known : goal.returns-clause-known

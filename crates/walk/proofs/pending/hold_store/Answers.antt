@@ -1,6 +1,5 @@
-use Rattle.std.proofs.Common.{◌+◌, arith}
 use Rattle.workspace.specs.Views.{forms}
-use Rattle.walk.proofs.Waiting.{waits_more, kept_named}
+use Rattle.walk.proofs.Waiting.{waits_more}
 use Rattle.walk.proofs.pending.hold_store.Goals as goal
 
 pub returns-clause-held : goal.returns-clause-held

@@ -1,4 +1,4 @@
-use Rattle.std.proofs.Common.{[], get_or, refl, ap, ◌∙◌, arith}
+use Rattle.std.proofs.Common.{[], get_or, ap, ◌∙◌, arith}
 use Rattle.workspace.specs.Views.{forms}
 use Rattle.workspace.proofs.Laws.{length_slots}
 use Rattle.walk.specs.Seen.{kept_seen}

@@ -1,4 +1,4 @@
-use Rattle.std.proofs.Common.{ℕ, Ok, Err, Result, refl, ap, ◌∙◌}
+use Rattle.std.proofs.Common.{ℕ, Ok, Err, Result, ap, ◌∙◌}
 use Rattle.std.proofs.lemmas.Result.{err_from_is_err_and}
 use Rattle.machine.specs.Answer.{good}
 use Rattle.machine.specs.Reading.{transition_of, row_of}
@@ -6,7 +6,7 @@ use Rattle.machine.specs.Views.{ahead}
 use Rattle.workspace.specs.Views.{forms}
 use Rattle.walk.specs.Walk.{step}
 use Rattle.walk.specs.Taking.{track_seen}
-use Rattle.walk.proofs.Stepped.{learned_step, other_side, arrives, one_put}
+use Rattle.walk.proofs.Stepped.{learned_step}
 use Rattle.walk.proofs.steps.learn_step.Goals as goal
 
 pub returns-in_err-number-clause-steps : goal.returns-in_err-number-clause-steps

@@ -1,4 +1,4 @@
-use Rattle.std.proofs.Common.{ℕ, Ok, Err, Result, refl, ap, ◌∙◌, rules}
+use Rattle.std.proofs.Common.{ℕ, Ok, Err, Result, ap, ◌∙◌, rules}
 use Rattle.std.proofs.lemmas.Result.{err_from_is_err_and}
 use Rattle.machine.specs.Reading.{transition_of, row_of}
 use Rattle.machine.specs.Views.{ahead}
@@ -6,7 +6,7 @@ use Rattle.workspace.specs.Views.{forms}
 use Rattle.walk.specs.Walk.{step, must}
 use Rattle.walk.specs.Seen.{known_seen}
 use Rattle.walk.specs.Taking.{only_reached, beside, reached_seen}
-use Rattle.walk.proofs.Stepped.{unsettled, settled_step, arrives, after_put}
+use Rattle.walk.proofs.Stepped.{unsettled, settled_step}
 use Rattle.walk.proofs.steps.settled_step.Goals as goal
 
 pub returns-then-not-is_put_settled-clause-steps : goal.returns-then-not-is_put_settled-clause-steps

@@ -5,7 +5,7 @@ use Rattle.machine.specs.Views.{ahead}
 use Rattle.walk.specs.Walk.{form_in_table}
 use Rattle.walk.specs.Seen.{kept_seen, stored_seen, outputs_seen}
 use Rattle.walk.specs.Taking.{acted}
-use Rattle.walk.proofs.Held.{made, made_apart}
+use Rattle.walk.proofs.Held.{made}
 use Rattle.walk.proofs.taking.take_transition.Goals as goal
 
 pub returns-clause-acted : goal.returns-clause-acted

@@ -1,13 +1,12 @@
 use Rattle.std.proofs.Common.{◌≡◌, ◌∷◌, map, sym, ap, ◌∙◌, rules}
 use Rattle.std.proofs.lemmas.Result.{err_from_is_err_and}
 use Rattle.expression.specs.Words.{item_of}
-use Rattle.machine.specs.Machine.{chosen}
 use Rattle.machine.specs.Reading.{tests, transition_of, behind, row_of}
 use Rattle.machine.specs.Views.{ahead}
 use Rattle.workspace.specs.Views.{forms}
 use Rattle.walk.specs.Seen.{kept_seen}
 use Rattle.walk.specs.Walk.{tested}
-use Rattle.walk.proofs.Tested.{second_over, both, both_kept}
+use Rattle.walk.proofs.Tested.{second_over, both}
 use Rattle.walk.proofs.testing.put_test.Goals as goal
 
 pub returns-in_err-work_out-2-clause-tests : goal.returns-in_err-work_out-2-clause-tests

@@ -1,7 +1,6 @@
-use Rattle.std.proofs.Common.{◌≡◌, Some, Ok, refl, ap, arith}
+use Rattle.std.proofs.Common.{Some, Ok, refl, ap}
 use Rattle.forms.specs.Forms as Forms
 use Rattle.expression.specs.Run.{pushed}
-use Rattle.expression.specs.Words.{takes}
 use Rattle.workspace.specs.Views.{forms, named}
 use Rattle.workspace.specs.Evaluation.{symbol_forms}
 use Rattle.workspace.proofs.Applied.{on_leaf, on_last, on_both}

@@ -1,9 +1,9 @@
-use Rattle.std.proofs.Common.{◌+◌, ◌-◌, ◌≤◌, Some, refl, ap, ◌∙◌, arith, rules}
+use Rattle.std.proofs.Common.{ap, ◌∙◌}
 use Rattle.std.proofs.lemmas.Result.{err_from_is_err_and}
 use Rattle.expression.specs.Run.{step}
 use Rattle.workspace.specs.Views.{forms}
 use Rattle.workspace.specs.Evaluation.{reading, stack}
-use Rattle.workspace.proofs.Evaluating.{started, stands, went, failed, ended, named_kept}
+use Rattle.workspace.proofs.Evaluating.{started, went, failed, ended, named_kept}
 use Rattle.workspace.proofs.evaluator.evaluate.Goals as goal
 
 pub loop-w-init : goal.loop-w-init

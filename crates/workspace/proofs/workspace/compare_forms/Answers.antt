@@ -1,4 +1,4 @@
-use Rattle.std.proofs.Common.{[], map, take, Some, sym, refl, ap, ◌∙◌, ap₂, arith}
+use Rattle.std.proofs.Common.{[], map, take, Some, sym, ap, ◌∙◌, ap₂, arith}
 use Rattle.std.proofs.lemmas.Result.{err_from_is_err_and}
 use Rattle.expression.specs.Words.{item_of}
 use Rattle.expression.specs.Run.{meaning}
@@ -8,7 +8,7 @@ use Rattle.workspace.specs.Views.{forms, named}
 use Rattle.workspace.specs.Evaluation.{reading}
 use Rattle.workspace.proofs.Laws.{length_slots}
 use Rattle.workspace.proofs.Evaluating.{accepted, refused}
-use Rattle.workspace.proofs.Comparing.{compared_first, compared_second, compared_both, first_kept, left_of, right_of}
+use Rattle.workspace.proofs.Comparing.{compared_second, compared_both, first_kept, left_of, right_of}
 use Rattle.workspace.proofs.workspace.compare_forms.Goals as goal
 
 pub returns-in_err-evaluate_into-2-clause-answer : goal.returns-in_err-evaluate_into-2-clause-answer

@@ -2,8 +2,6 @@ use Rattle.std.proofs.Common.{◌≡◌, [], get_or, sym, ap, ◌∙◌, arith}
 use Rattle.forms.specs.Rows.{part}
 use Rattle.forms.specs.Forms as Forms
 use Rattle.forms.proofs.Parts.{kept_then, part_kept}
-use Rattle.forms.proofs.Turns.{length_part}
-use Rattle.forms.proofs.Scaling.{length_sum}
 use Rattle.forms.specs.Forms.{negation}
 use Rattle.forms.proofs.Limits.{difference_is}
 use Rattle.workspace.specs.Slots.{slots, give}

@@ -1,8 +1,8 @@
-use Rattle.std.proofs.Common.{set, ap, ◌∙◌, inl, arith}
+use Rattle.std.proofs.Common.{set, ap, ◌∙◌, arith}
 use Rattle.forms.specs.Rows.{part}
 use Rattle.forms.specs.Forms.{negation}
 use Rattle.workspace.specs.Slots.{slots}
-use Rattle.workspace.proofs.Steps.{form_at, forms_kept, short, made_within, length_negation}
+use Rattle.workspace.proofs.Steps.{form_at, forms_kept, short, length_negation}
 use Rattle.workspace.proofs.Laws.{ready}
 use Rattle.workspace.proofs.slots.Slots.negation.Goals as goal
 

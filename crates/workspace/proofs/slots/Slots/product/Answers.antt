@@ -5,7 +5,7 @@ use Rattle.forms.specs.Forms.{top}
 use Rattle.forms.proofs.Limits.{k_is, product_fits, product_over}
 use Rattle.workspace.specs.Slots.{slots, give}
 use Rattle.workspace.specs.Views.{forms}
-use Rattle.workspace.proofs.Steps.{form_at, settled, short, made_within, length_product}
+use Rattle.workspace.proofs.Steps.{form_at, settled}
 use Rattle.workspace.proofs.Laws.{ready}
 use Rattle.workspace.proofs.slots.Slots.product.Goals as goal
 

@@ -1,10 +1,9 @@
 use Rattle.std.proofs.Common.{[], get_or, sym, ap, ◌∙◌, arith}
 use Rattle.forms.specs.Rows.{part}
 use Rattle.forms.specs.Forms as Forms
-use Rattle.forms.proofs.Scaling.{length_sum}
 use Rattle.forms.proofs.Limits.{sum_is}
 use Rattle.workspace.specs.Slots.{slots, give}
-use Rattle.workspace.proofs.Steps.{form_at, settled, short, made_within}
+use Rattle.workspace.proofs.Steps.{form_at, settled}
 use Rattle.workspace.proofs.Laws.{ready}
 use Rattle.workspace.proofs.slots.Slots.sum.Goals as goal
 
