@@ -1,8 +1,11 @@
 -- Two expressions one behind the other can be split in one way only.
-use Rattle.std.proofs.Common.{◌≡◌, ℕ, zero, suc, ◌+◌, ◌-◌, ◌<◌, ◌≤◌, ◌≢◌, Bool, true, false, ◌&&◌, Some, None, Option, MatchOption, leb, List, [], ◌∷◌, ◌++◌, map, length, take, drop, sym, refl, ap, ◌∙◌, subst, ⊎_elim, arith, take-add}
+use Rattle.std.proofs.Common.{◌≡◌, ℕ, zero, suc, ◌+◌, ◌-◌, ◌<◌, ◌≤◌, ◌≢◌, Bool, true, false, ◌&&◌, Some, None, Option, MatchOption, leb, List, [], ◌∷◌, ◌++◌, map, length, take, drop, get_or, sym, refl, ap, ◌∙◌, subst, ⊎_elim, arith, take-add}
+use Rattle.std.proofs.Math.Seq.{drop-length}
+use Rattle.std.specs.Bool.{then_some}
 use Rattle.std.proofs.lemmas.Bool.{and_parts, leb-true, eqb-true, cases_order, true≢false}
-use Rattle.std.proofs.lemmas.List.{take-append-drop, map-append, take-map}
+use Rattle.std.proofs.lemmas.List.{take-append-drop, map-append, take-map, length-map, length-drop, length-take-le, drop-drop, drop_more}
 use Rattle.expression.specs.declared.item.Item.{Item}
+use Rattle.expression.specs.declared.item.Item.TheVariants.{Constant, Register, Input, Symbol, Sum, Difference, Product, Negation}
 use Rattle.expression.specs.Words.{takes, item_of}
 use Rattle.expression.specs.Shape.{lands, is_expression, split_below, split, Splits, OneSplit}
 
@@ -44,6 +47,38 @@ expr_run : (ws : List Item) → is_expression ws ≡ true → Run 0 ws 1
 unfolding is_expression
 expr_run ws h = lands_run 0 ws (and_parts (leb (length ws) 24) _ h).1
 
+-- How many values the items take.
+abbrev pub wants : List Item → ℕ
+wants [] = 0
+wants (i ∷ e) = takes i + wants e
+
+pub takes_few : (i : Item) → takes i ≤ 2
+takes_few (Constant n) = omega arith
+takes_few (Register n) = omega arith
+takes_few (Input n) = omega arith
+takes_few (Symbol n) = omega arith
+takes_few Sum = omega arith
+takes_few Difference = omega arith
+takes_few Product = omega arith
+takes_few Negation = omega arith
+
+run_wants : (d e : ℕ) (xs : List Item) → Run d xs e → d + length xs ≡ wants xs + e
+unfolding Run
+run_wants d e [] r = omega (arith, r)
+run_wants d e (x ∷ xs) r = omega (arith, r.0, run_wants (d - takes x + 1) e xs r.1)
+
+expr_wants : (e : List Item) → is_expression e ≡ true → length e ≡ 1 + wants e
+expr_wants e h = omega (arith, run_wants 0 1 e (expr_run e h))
+
+-- Of an expression, what stands behind a first part wants values.
+rest_wants : (front back : List Item) → 0 < length front → is_expression (front ++ back) ≡ true → length back ≤ wants back
+unfolding Run
+rest_wants [] back h e = absurd (omega (arith, h))
+rest_wants (x ∷ xs) back h e =
+    let s = run_split 0 1 (x ∷ xs) back (expr_run ((x ∷ xs) ++ back) e) in
+    let some = run_some (0 - takes x + 1) s.0 xs (omega arith) s.1.1 in
+    omega (arith, some, run_wants s.0 1 back s.2)
+
 -- no expression goes on as one behind an expression
 pub no_longer : (a b : List Item) (n : ℕ) → 0 < n → is_expression a ≡ true → is_expression b ≡ true → is_expression (a ++ take n b) ≡ true → ⊥
 unfolding Run
@@ -70,7 +105,7 @@ not_before ws j k h sj sk =
 pub one_split : OneSplit
 one_split ws j k sj sk = ⊎_elim (λ e. e) (λ o. ⊎_elim (λ lt. absurd (not_before ws k j lt sk sj)) (λ gt. absurd (not_before ws j k gt sj sk)) o) (cases_order j k)
 
--- The first place that splits them, among all below the length, is the one that there is.
+-- The places of the words, and the one that splits them.
 module _ (ws : List ℕ) where
   abbrev pub both : ℕ → Bool
   both k = is_expression (map item_of (take k ws)) && is_expression (map item_of (drop k ws))
@@ -92,7 +127,68 @@ module _ (ws : List ℕ) where
           let other : n ≢ i = λ same. true≢false (sym e ∙ ap both (sym same) ∙ is) in
           rw is (more (omega arith))
 
+  abbrev pub after : ℕ → List Item
+  after k = map item_of (drop k ws)
+
+  long_after : (k : ℕ) → length (after k) ≡ length ws - k
+  long_after k = length-map (drop k ws) item_of ∙ length-drop k ws
+
+  -- The word before a place wants the values that it takes.
+  pub wants_more : (k : ℕ) → 0 < k → k ≤ length ws → wants (after (k - 1)) ≡ takes (item_of (get_or ws (k - 1) 0)) + wants (after k)
+  wants_more k h le = ap (λ l. wants (map item_of l)) (drop_more ws (k - 1) 0 (omega arith) ∙ ap (λ n. get_or ws (k - 1) 0 ∷ drop n ws) (omega arith))
+
+  -- Where a value is wanted, no expression begins that goes on to the end.
+  pub not_here : (k : ℕ) → length ws - k ≤ wants (after k) → both k ≡ false
+  not_here k few = go (both k) refl
+    where
+      go : (b : Bool) → both k ≡ b → both k ≡ false
+      go true is = absurd (omega (arith, few, long_after k, expr_wants (after k) (splits k is).1))
+      go false is = is
+
+  abbrev between : ℕ → ℕ → List Item
+  between j k = map item_of (take (k - j) (drop j ws))
+
+  long_between : (j k : ℕ) → j < k → k < length ws → length (between j k) ≡ k - j
+  long_between j k lt h =
+      let fits : k - j ≤ length (drop j ws) = subst (λ n. k - j ≤ n) (sym (length-drop j ws)) (omega arith) in
+      length-map (take (k - j) (drop j ws)) item_of ∙ length-take-le (k - j) (drop j ws) fits
+
+  parts_between : (j k : ℕ) → j < k → after j ≡ between j k ++ after k
+  parts_between j k lt =
+      let back : drop (k - j) (drop j ws) ≡ drop k ws = drop-drop (k - j) j ws ∙ ap (λ n. drop n ws) (omega arith) in
+      ap (map item_of) (sym (take-append-drop (k - j) (drop j ws))) ∙ map-append item_of (take (k - j) (drop j ws)) (drop (k - j) (drop j ws)) ∙ ap (λ l. between j k ++ map item_of l) back
+
+  -- Where none is wanted, none begins before.
+  pub not_before_here : (j k : ℕ) → j < k → k < length ws → wants (after k) < length ws - k → both j ≡ false
+  not_before_here j k lt h few = go (both j) refl
+    where
+      go : (b : Bool) → both j ≡ b → both j ≡ false
+      go true is =
+          let rest = rest_wants (between j k) (after k) (omega (arith, long_between j k lt h)) (subst (λ l. is_expression l ≡ true) (parts_between j k lt) (splits j is).1) in
+          absurd (omega (arith, few, rest, long_after k))
+      go false is = is
+
+  pub none_more : (k : ℕ) → both (k - 1) ≡ false → ((j : ℕ) → k ≤ j → j < length ws → both j ≡ false) → (j : ℕ) → k - 1 ≤ j → j < length ws → both j ≡ false
+  none_more k is h j le lt = ⊎_elim (λ same. subst (λ n. both n ≡ false) same is) (λ o. ⊎_elim (λ below. h j (omega arith) lt) (λ above. absurd (omega arith)) o) (cases_order (k - 1) j)
+
+  pub wants_end : wants (after (length ws)) ≡ 0
+  wants_end = ap (λ l. wants (map item_of l)) (drop-length ws)
+
+  pub none_splits : ((k : ℕ) → k < length ws → both k ≡ false) → split ws ≡ None
+  unfolding split
+  none_splits h = below_none (length ws) h
+
+  -- The first place that splits them, among all below the length, is the one that there is.
   pub split_is : (r : Option ℕ) → MatchOption r ((k : ℕ) → 0 ≤ k → k < length ws → both k ≡ false) (λ i. (0 ≤ i) × (i < length ws) × (both i ≡ true) × ((k : ℕ) → 0 ≤ k → k < i → both k ≡ false)) → r ≡ split ws
   unfolding split
   split_is None h = sym (below_none (length ws) (λ k lt. h k (omega arith) lt))
   split_is (Some i) (l, m, s, r) = sym (below_one (length ws) i m s)
+
+  -- The one place that is left splits the words, or none does.
+  pub split_here : (k : ℕ) → k < length ws → ((j : ℕ) → j < k → both j ≡ false) → ((j : ℕ) → k < j → j < length ws → both j ≡ false) → then_some (both k) k ≡ split ws
+  unfolding split
+  split_here k h before behind = go (both k) refl
+    where
+      go : (b : Bool) → both k ≡ b → then_some b k ≡ split ws
+      go true is = sym (below_one (length ws) k h is)
+      go false is = sym (below_none (length ws) (λ j lt. ⊎_elim (λ same. subst (λ n. both n ≡ false) (sym same) is) (λ o. ⊎_elim (λ less. before j less) (λ more. behind j more lt) o) (cases_order j k)))

@@ -59,10 +59,18 @@ fn splits_at(words: &[u32], k: usize) -> bool
 }
 
 // Where the second of two expressions, one behind the other, begins.
+// It is the last one, so it begins at the first place from the end back from which no value is wanted: each word leaves a value and wants those that it takes.
 pub fn split_of(words: &[u32]) -> Option<usize>
     ensures { result ≡ split words.now }
 {
-    (0..words.len()).find(|k| splits_at(words, *k))
+    let mut wanted: usize = 1;
+    for k in (0..words.len()).rev() {
+        wanted = wanted + Item::from(words[k]).taken() - 1;
+        if wanted == 0 {
+            return splits_at(words, k).then_some(k);
+        }
+    }
+    None
 }
 
 // Two expressions one behind the other can be split in one way only.

@@ -1,6 +1,7 @@
 pub mod Parts
 pub mod Scaling
 pub mod Turns
+pub mod OneSided
 pub mod Comparing
 pub mod Digits
 pub mod Limits

@@ -114,6 +114,9 @@ module _ {X : Type 0} where
     same = sym (take-take n m zs le) ∙ ap (take n) b.same ∙ take-take n m ys le ∙ a.same;
   }
 
+pub within_less : (at : ℕ) (s t : Span) → Within t s.to → Within s at → Within t at
+within_less at s t i j = record { ordered = i.ordered; below = let a = i.below in let b = j.below in omega arith }
+
 -- the front of a part, read in a row that is kept below `at`
 pub step_kept : {X : Type 0} (at : ℕ) (base row : List X) (s : Span) (t : X) → Kept at base row → Within s at → Within (record { from = s.from + 1; to = s.to }) at → s.from < s.to → s.to ≤ length row → t ≡ get_or row s.from t → part s base ≡ t ∷ part (record { from = s.from + 1; to = s.to }) base
 step_kept at base row s t k i j some inside read =

@@ -1,5 +1,5 @@
 // The sum of two forms that stand in a row, written behind them.
-ghost use Rattle.std.specs.Prelude.{◌≡◌, ◌+◌, ◌-◌, ◌<◌, ◌≤◌, [], ◌++◌, length};
+ghost use Rattle.std.specs.Prelude.{◌≡◌, ◌+◌, ◌-◌, ◌<◌, ◌≤◌, [], ◌++◌, length, take};
 ghost use Rattle.std.specs.Option.{option_to_list};
 ghost use Rattle.forms.specs.Rows.{part, Within, Put};
 ghost use Rattle.forms.specs.Forms.{added, unless_zero, term};
@@ -44,7 +44,23 @@ fn next<'a, D: Domain>(
     }
 }
 
+// Terms written into a row from a place on. The place behind them.
+fn put<D: Copy>(row: &mut [Term<D>], at: usize, terms: &[Term<D>]) -> usize
+    requires { at + length terms.now ≤ length row.old }
+    ensures put { take result row.new ≡ take at row.old ++ terms.now }
+    ensures behind { result ≡ at + length terms.now }
+    ensures long { length row.new ≡ length row.old }
+{
+    let mut n = at;
+    for t in terms {
+        row[n] = *t;
+        n += 1;
+    }
+    n
+}
+
 // The sum of the parts `a` and `b`, written from `at` on.
+// Once one of them is used up, what is left of the other is the rest of the sum.
 // No iterator: two slices shrink at different rates, and `n` counts what is written, which can be less than what is read.
 pub fn merge<D: Domain>(row: &mut [Term<D>], a: Span, b: Span, at: usize) -> Span
     requires a { Within a at }
@@ -57,7 +73,7 @@ pub fn merge<D: Domain>(row: &mut [Term<D>], a: Span, b: Span, at: usize) -> Spa
     let mut p = &source[a.from..a.to];
     let mut q = &source[b.from..b.to];
     let mut n = 0;
-    while !p.is_empty() || !q.is_empty() {
+    while !p.is_empty() && !q.is_empty() {
         let (t, ps, qs) = next(p, q);
         p = ps;
         q = qs;
@@ -66,6 +82,8 @@ pub fn merge<D: Domain>(row: &mut [Term<D>], a: Span, b: Span, at: usize) -> Spa
             n += 1;
         }
     }
+    let n = put(target, n, p);
+    let n = put(target, n, q);
     Span {
         from: at,
         to: at + n,

@@ -15,10 +15,11 @@ fn print_file(rt: &HostRuntime, name: &str, bytes: &[u8]) -> io::Result<()> {
 }
 
 fn print_words(rt: &HostRuntime, name: &str, words: &[u32]) -> io::Result<()> {
-    let bytes: Vec<u8> = words
-        .iter()
-        .flat_map(|word| word.to_be_bytes())
-        .collect(rt.alloc())?;
+    let mut bytes = vec![in rt.alloc(); 0; 4 * words.len()]?;
+    let (chunks, _) = bytes.as_chunks_mut::<4>();
+    for (chunk, word) in chunks.iter_mut().zip(words) {
+        *chunk = word.to_be_bytes();
+    }
     print_file(rt, name, &bytes)
 }
 

@@ -1,7 +1,7 @@
 use Rattle.std.proofs.Common.{arith}
 use Rattle.std.proofs.lemmas.Grind.{common_steps}
 use Rattle.forms.specs.Monomials.{K, degree}
-use Rattle.forms.proofs.Digits.{filled_empty, filled_more, filled_end}
+use Rattle.forms.proofs.Digits.{filled_empty_at, filled_more_at, filled_end}
 use Rattle.forms.proofs.monomial.Monomial.degree.Goals as goal
 use Rattle.forms.proofs.monomial.Monomial.degree.Goals.{then-word-ne0, else-word-ne0}
 
@@ -10,8 +10,8 @@ unfolding K
 loop-preserved c =
     let l = c.loop in
     elim c.if-word-ne0.branch [
-      | then-word-ne0 w ↦ let e = filled_more 4 l.counter l.word c.loop-test.true w.if-word-ne0.true in simp w.count-is (omega arith, omega arith)
-      | else-word-ne0 w ↦ let e = filled_empty 4 l.counter l.word c.loop-test.true w.if-word-ne0.false in simp w.count-is (omega arith, omega arith)
+      | then-word-ne0 w ↦ let e = filled_more_at 4 l.counter l.word c.loop-test.true w.if-word-ne0.true in simp w.count-is (omega arith, omega arith)
+      | else-word-ne0 w ↦ let e = filled_empty_at 4 l.counter l.word c.loop-test.true w.if-word-ne0.false in simp w.count-is (omega arith, omega arith)
     ]
 
 pub returns : goal.returns

@@ -1,6 +1,6 @@
 use Rattle.std.proofs.Common.{◌/◌, sym, ◌∙◌, arith}
 use Rattle.forms.specs.Monomials.{K, times_word}
-use Rattle.forms.proofs.Digits.{merged_left, merged_right, merged_end, digit_more, code_room}
+use Rattle.forms.proofs.Digits.{merged_left_at, merged_right_at, merged_end, digit_more, code_room}
 use Rattle.forms.proofs.monomial.Monomial.times.Goals as goal
 use Rattle.forms.proofs.monomial.Monomial.times.Goals.{then-d-c, else-d-c}
 
@@ -21,8 +21,8 @@ unfolding K
 loop-preserved c =
     let l = c.loop in
     elim c.if-d-c.branch [
-      | then-d-c w ↦ simp (w.x-is, w.y-is, w.out-is) (sym (merged_left 4 l.counter l.x l.y l.out c.loop-test.true w.if-d-c.true) ∙ l.invariant.0, digit_more l.counter l.out (l.x / 16777216) l.invariant.1 (omega arith))
-      | else-d-c w ↦ simp (w.x-is, w.y-is, w.out-is) (sym (merged_right 4 l.counter l.x l.y l.out c.loop-test.true w.if-d-c.false) ∙ l.invariant.0, digit_more l.counter l.out (l.y / 16777216) l.invariant.1 (omega arith))
+      | then-d-c w ↦ simp (w.x-is, w.y-is, w.out-is) (sym (merged_left_at 4 l.counter l.x l.y l.out c.loop-test.true w.if-d-c.true) ∙ l.invariant.0, digit_more l.counter l.out (l.x / 16777216) l.invariant.1 (omega arith))
+      | else-d-c w ↦ simp (w.x-is, w.y-is, w.out-is) (sym (merged_right_at 4 l.counter l.x l.y l.out c.loop-test.true w.if-d-c.false) ∙ l.invariant.0, digit_more l.counter l.out (l.y / 16777216) l.invariant.1 (omega arith))
     ]
 
 pub returns : goal.returns
