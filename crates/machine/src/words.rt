@@ -1,6 +1,6 @@
 // Which words may stand where: one rule for tables, pairs and claims.
 ghost use Rattle.std.specs.Prelude.{◌≡◌, ◌<◌, ◌≤◌, length, drop, IfOk};
-ghost use Rattle.machine.specs.Words.{bound, legal, ends, ending, word_told, stops, FirstPlace, FirstEnd};
+ghost use Rattle.machine.specs.Words.{bound, legal, ends, ending, word_told, FirstEnd};
 
 use expression::kind::{Kind, NUMBERS};
 use expression::words::number_of;
@@ -78,33 +78,21 @@ pub fn next_end(words: &[u32], from: usize) -> Option<usize>
 }
 
 impl Reader<'_> {
-    // Whether a word may not stand here, or ends what stands before it.
-    fn stops(&self, word: u32) -> bool
-        ensures { result ≡ stops self.now.limits word }
-    {
-        !self.limits.allows(word) || is_end(word)
-    }
-
-    // The place of the first word, from `from` on, at which the search for an end stops.
-    fn first_stop(&self, from: usize) -> Option<usize>
-        ensures { FirstPlace (stops self.now.limits) self.now.words.now from result }
-    {
-        let words = self.words;
-        (from..words.len()).find(|i| self.stops(words[*i]))
-    }
-
     // The place of the word that ends what begins at `from`.
+    #[tactic(auto, using(crate::proofs::Places::ending_found, crate::proofs::Places::ending_none))]
     pub fn ending_at(&self, from: usize) -> Result<usize, WordFault>
         ensures reads { word_told result ≡ ending self.now.limits from (drop from self.now.words.now) }
         ensures within { IfOk result (λ q. (from ≤ q) × (q < length self.now.words.now)) }
     {
         let words = self.words;
-        let Some(place) = self.first_stop(from) else {
-            return Err(WordFault::EndsEarly(from.max(words.len())));
-        };
-        if !self.limits.allows(words[place]) {
-            return Err(WordFault::Forbidden(place));
+        for place in from..words.len() {
+            if !self.limits.allows(words[place]) {
+                return Err(WordFault::Forbidden(place));
+            }
+            if is_end(words[place]) {
+                return Ok(place);
+            }
         }
-        Ok(place)
+        Err(WordFault::EndsEarly(from.max(words.len())))
     }
 }
