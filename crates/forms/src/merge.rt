@@ -7,7 +7,6 @@ ghost use Rattle.forms.specs.Forms.{added, unless_zero, term};
 use crate::span::Span;
 use crate::term::Term;
 use domain::Domain;
-use std::cmp::Ordering;
 
 // The sum of two terms of one monomial, if it is not zero.
 fn total<D: Domain>(s: Term<D>, t: Term<D>) -> Option<Term<D>>
@@ -33,11 +32,9 @@ fn next<'a, D: Domain>(
     ensures less { 0 < length p.now + length q.now → length result.1.now + length result.2.now < length p.now + length q.now }
 {
     match (p, q) {
-        ([s, ps @ ..], [t, qs @ ..]) => match s.monomial.cmp(&t.monomial) {
-            Ordering::Greater => (Some(*s), ps, q),
-            Ordering::Less => (Some(*t), p, qs),
-            Ordering::Equal => (total(*s, *t), ps, qs),
-        },
+        ([s, ps @ ..], [t, ..]) if s.monomial > t.monomial => (Some(*s), ps, q),
+        ([s, ..], [t, qs @ ..]) if s.monomial < t.monomial => (Some(*t), p, qs),
+        ([s, ps @ ..], [t, qs @ ..]) => (total(*s, *t), ps, qs),
         ([s, ps @ ..], []) => (Some(*s), ps, q),
         ([], [t, qs @ ..]) => (Some(*t), p, qs),
         ([], []) => (None, p, q),

@@ -79,6 +79,7 @@ pub fn next_end(words: &[u32], from: usize) -> Option<usize>
 
 impl Reader<'_> {
     // The place of the word that ends what begins at `from`.
+    // No `find`: whether the word found may stand would be asked again.
     #[tactic(auto, using(crate::proofs::Places::ending_found, crate::proofs::Places::ending_none))]
     pub fn ending_at(&self, from: usize) -> Result<usize, WordFault>
         ensures reads { word_told result ≡ ending self.now.limits from (drop from self.now.words.now) }
